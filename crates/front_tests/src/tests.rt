@@ -1,4 +1,4 @@
-//! Tests of what reads files, a module for each part.
+//! Tests of all parts that read files, a module for each.
 
 mod folder;
 mod labels;

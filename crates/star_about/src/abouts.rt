@@ -199,7 +199,7 @@ impl<'w, 'a, 't> Look<'w, 'a, 't> {
             .is_err()
     }
 
-    /// Whether a key is equal to one of some before it.
+    /// Whether a key is equal to an earlier one.
     fn is_among(&mut self, key: Value, before: &[Value]) -> bool {
         let line = self.fault.line;
         let setting = self.world.setting();

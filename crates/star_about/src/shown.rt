@@ -1,4 +1,4 @@
-//! The texts of values that a person is shown.
+//! The texts of values for a person.
 
 use crate::look::Look;
 use star_found::about::{Shown, Type};
@@ -80,7 +80,7 @@ impl<'w, 'a, 't> Look<'w, 'a, 't> {
         }
     }
 
-    /// A value as it is shown: a function by its name.
+    /// A value in its form for a person: a function has its name as its text.
     pub(crate) fn shown(&mut self, value: Value) -> Result<Shown, AllocError> {
         let kind = self.kind(value);
         let text = match kind {
@@ -95,7 +95,7 @@ impl<'w, 'a, 't> Look<'w, 'a, 't> {
         })
     }
 
-    /// A value as it is shown, if there is one.
+    /// A value in its form for a person, if there is a value.
     pub(crate) fn maybe_shown(
         &mut self,
         value: Option<Value>,

@@ -1,4 +1,4 @@
--- What is answered of a run.
+-- The answers for a run.
 use Rattle.std.proofs.Common.{◌≡◌, ℕ, Bool, true, false, List, Option, length, map, sym, subst}
 use Rattle.star_label.specs.Files.{File}
 use Rattle.star_outcome.specs.Kept.{AllGood, AreModulesOf, RunView}

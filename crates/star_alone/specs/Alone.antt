@@ -1,4 +1,4 @@
--- What is answered of the bytes of a bundle.
+-- The answer for the bytes of a bundle.
 use Rattle.std.specs.Prelude.{◌≡◌, ◌⊎◌, ℕ, List, Bool, Option, Result, Ok, Err, String, if◌then◌else◌, length, map, nat_lt, option_map, string_bytes}
 use denote.Ref.{Bor}
 use Rattle.star_bundle.specs.Bundle.{Asked, asked_of}
@@ -13,27 +13,30 @@ use Rattle.star_report.specs.declared.wanted.Wanted.{Wanted}
 abbrev pub bytes_limit : ℕ
 bytes_limit = 268435456
 
--- the input that a bundle with these bytes is for these words, or the refusal of it: that of too many bytes comes first
+-- the input that a bundle with these bytes is for these words, or its refusal. The refusal of too many bytes comes
+-- first.
 unfoldable pub asked_within : List (List ℕ) → Option (List ℕ) → List ℕ → Result Asked ServeError
 asked_within roots prelude input =
     if nat_lt bytes_limit (length input) then Err TooBig else asked_of roots prelude input
 
--- so it is for the roots and the prelude as the code has them
+-- the same for the roots and the prelude as the code has them
 abbrev pub asked_by : {Z : Type 0} → List (String Z) → Option (Bor (String Z)) → List ℕ → Result Asked ServeError
 asked_by roots prelude input =
     asked_within (map string_bytes roots) (option_map (λ p. string_bytes p.now) prelude) input
 
--- a text is the report of an input, with what is wanted more, and the answer is whether each module of it is ok
+-- a text is the report of an input, with the further members that are wanted, and the answer is whether each module of
+-- it is ok
 abbrev pub IsAnswered : Wanted → Asked → ℕ → List ℕ → Bool → Type 0
 IsAnswered wanted asked steps text all_ok =
     InPlanOf asked.files asked.roots asked.prelude steps
     (λ plan. IsOutput (Report wanted) asked.files plan text all_ok)
 
--- so it is of an input that is not refused
+-- this is so of an input that is not refused
 abbrev pub IsAnswerTo : Result Asked ServeError → Wanted → ℕ → List ℕ → Bool → Type 0
 IsAnswerTo given wanted steps text all_ok =
     (asked : Asked) × (given ≡ Ok asked) × IsAnswered wanted asked steps text all_ok
 
--- a refusal of this input: the one that the rules give, or that an allocation failed; or a module of it was not published
+-- a refusal of this input: the one that the rules give, or a failed allocation, or a module of it that was not
+-- published
 abbrev pub IsRefusedBy : Result Asked ServeError → ServeError → Type 0
 IsRefusedBy given e = Fails e given ⊎ ((e ≡ Unpublished) × ((asked : Asked) × (given ≡ Ok asked)))

@@ -19,7 +19,7 @@ use std::alloc::Global;
 use std::hash::{DefaultHasher, Hasher};
 
 /// The most bytes that a bundle may have.
-const LIMIT: usize = 268_435_456;
+const MOST_BYTES: usize = 268_435_456;
 
 /// The text of a report, and whether every module of it is ok.
 #[derive(Drop)]
@@ -28,7 +28,7 @@ pub struct Answered {
     pub all_ok: bool,
 }
 
-/// Runs what is asked for over these cells, and writes the report.
+/// Runs the roots that are asked for over these cells, and writes the report.
 fn answer_over<'t>(
     alloc: Global,
     asked: &AskedFor,
@@ -64,7 +64,7 @@ fn answer_over<'t>(
     Ok(Answered { text, all_ok })
 }
 
-/// The report of what is asked for, with what is wanted more of each module.
+/// The report of the input that is asked for, with the further members of each module that are wanted.
 fn answer_asked(
     alloc: Global,
     asked: &AskedFor,
@@ -103,18 +103,18 @@ fn input_of(
     ensures roots { IfOk result (λ a. All (λ n. n < length a.files) a.roots.items) }
     ensures prelude { IfOk result (λ a. IfSome a.prelude (λ n. n < length a.files)) }
 {
-    if bytes.len() > LIMIT {
+    if bytes.len() > MOST_BYTES {
         return Err(ServeError::TooBig);
     }
     asked_for(alloc, bytes, roots, prelude)
 }
 
-/// The report of the bundle with these bytes, for these roots and this prelude, with what is wanted more of each module.
-/// `steps` is the number of steps that each body may take, from 1 to 100,000,000. All is done by the caller's own
-/// thread, and all memory but the text's is back when it returns.
+/// The report of the bundle with these bytes, for these roots and this prelude, with the further members of each module
+/// that are wanted. `steps` is the number of steps that each body may take, from 1 to 100,000,000. All is done by the
+/// caller's own thread, and all memory but the text's is back when it returns.
 ///
-/// The rules are those of `docs/REPORT.md`: what a bundle is, the refusals in their order, and the report. `TooBig` if
-/// there are more than 268,435,456 bytes, before all other refusals.
+/// The rules are in `docs/REPORT.md`: what a bundle is, the refusals in their order, and the report. `TooBig` if there
+/// are more than 268,435,456 bytes, before all other refusals.
 pub fn answer_alone(
     alloc: Global,
     bytes: &[u8],
@@ -125,7 +125,8 @@ pub fn answer_alone(
 ) -> Result<Answered, ServeError>
     requires steps { (1 ≤ steps) × (steps ≤ 100000000) }
 
-    // The bytes are a bundle that has each root and the prelude, and the text is its report, and so is the answer.
+    // The bytes are a bundle that has each root and the prelude. The text is its report, and the answer is whether each
+    // module of it is ok.
     ensures ok { IfOk result (λ a.
         IsAnswerTo (asked_by roots.now prelude.entry bytes.now) wanted steps a.text.items a.all_ok) }
 

@@ -10,7 +10,7 @@ ghost use Rattle.star_plan.specs.Plan.{loaded};
 ghost use Rattle.star_plan.specs.Results.{IsGood};
 
 use star_cache::{Book, BookError, Reply};
-use star_outcome::naming::RunId;
+use star_outcome::run_id::RunId;
 use star_outcome::told::Told;
 use star_outcome::trace::CyclicLoad;
 use std::alloc::{AllocError, Global};
@@ -37,7 +37,7 @@ impl<J: RunId> Model for Cache<J> {
 }
 
 impl<J: RunId> Cache<J> {
-    /// A book of `count` files, none of which has been asked for.
+    /// A book of `count` files. None has been asked for yet.
     pub(crate) fn new(alloc: Global, files: usize) -> Result<Cache<J>, AllocError>
         requires files { files ≡ length J.files }
         requires few { files ≤ 10000 }

@@ -10,8 +10,8 @@ use star_cache::Reply;
 use star_host::LoadContext;
 use star_host::gate::Open;
 use star_host::loading::{LoadError, Turn, next_load, published, told_module};
-use star_outcome::naming::RunId;
 use star_outcome::open_file::OpenFile;
+use star_outcome::run_id::RunId;
 use star_outcome::trace::CyclicLoad;
 use std::alloc::AllocError;
 
@@ -83,8 +83,8 @@ fn begins<J: RunId>(cache: &mut Cache<J>, root: usize) -> Result<bool, LoadError
 }
 
 /// Loads a file and all that it loads, unless it has ended. A file whose load was begun asks for it again once it has
-/// ended. `Memory` if an allocation failed; `Unpublished` where a cell of the shelf had something already, and
-/// after 2^64 - 1 turns; `Spoiled` where the book refuses a call.
+/// ended. `Memory` if an allocation failed. `Unpublished` where a cell of the shelf had something already, and after
+/// 2^64 - 1 turns. `Spoiled` where the book refuses a call.
 pub(crate) fn load<'s, 'r, 'p, 't, J: RunId>(
     common: &LoadContext<'s, 'r, 'p, 't>,
     cache: &mut Cache<J>,

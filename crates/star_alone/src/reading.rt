@@ -68,7 +68,7 @@ fn parsed_at<'t>(
     }
 }
 
-/// The prelude: its names are those of its tree, which is kept in the last cell; it has none where its text does not
+/// The prelude. Its names are those of its tree, which is kept in the last cell. It has no names if its text does not
 /// parse.
 fn prelude_of<'t>(
     alloc: Global,
@@ -193,8 +193,8 @@ fn read_by<'s, 't>(
 }
 
 /// Reads all files that the roots reach, one after another: of each its program, or its static fault. The trees have
-/// cells of their own, which are those of `tree_cells`. `Memory` where a growth is refused, `Unpublished` where a cell
-/// has a tree already.
+/// cells of their own (`tree_cells`). `Memory` where a growth is refused, `Unpublished` where a cell has a tree
+/// already.
 pub fn read_alone<'t>(
     alloc: Global,
     files: &Labels,

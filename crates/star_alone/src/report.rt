@@ -26,8 +26,8 @@ fn write_each(alloc: Global, files: &Labels, causes: &Causes, wanted: Wanted, pa
     }
 }
 
-/// The report of a run for these roots over these files as its text, with its line end and with what is wanted more of
-/// each module: the same bytes as by any number of threads. The error: an allocation failed.
+/// The report of a run for these roots over these files as its text, with its line end and with the further members of
+/// each module that are wanted: the same bytes as by any number of threads. The error: an allocation failed.
 pub(crate) fn report_alone(
     alloc: Global,
     files: &Labels,

@@ -20,8 +20,8 @@ use star_host::settle::{kept_of, reached};
 use star_host::{LoadContext, LoadError, Run, RunError, RunOptions, programs};
 use star_label::files::Files as Labels;
 use star_outcome::module::Module;
-use star_outcome::naming::RunId;
 use star_outcome::outcome::Kept;
+use star_outcome::run_id::RunId;
 use star_outcome::shelf::Shelf;
 use star_outcome::told::Told;
 use star_outcome::trace::CyclicLoad;
@@ -30,7 +30,7 @@ use star_tree::tree::Tree;
 use std::alloc::{AllocError, Global};
 use std::marker::Brand;
 
-/// What a run says of files that were not read.
+/// The error of a run whose files were not read.
 fn unread(error: ReadError) -> RunError {
     match error {
         ReadError::Memory => RunError::Memory,
@@ -38,7 +38,7 @@ fn unread(error: ReadError) -> RunError {
     }
 }
 
-/// What a book tells in which all reached files have ended, without the shelf.
+/// The values of a book in which all reached files have ended, without the shelf.
 #[derive(Drop)]
 struct Ended {
     kept: Vec<Kept>,
@@ -62,7 +62,7 @@ fn load_each<'s, 'r, 'p, 't, J: RunId>(
     Ok(())
 }
 
-/// What a book tells in which all reached files have ended.
+/// The values of a book in which all reached files have ended.
 fn ended_of<J: RunId>(
     alloc: Global,
     book: Book<Told<J>>,
@@ -86,7 +86,7 @@ fn ended_of<J: RunId>(
     })
 }
 
-/// The run of a naming: its roots are loaded, and the modules of all reached files are kept.
+/// The run of a run id: its roots are loaded, and the modules of all reached files are kept.
 fn run_named<'s, 'r, 'p, 't, J: RunId>(
     common: &LoadContext<'s, 'r, 'p, 't>,
 ) -> Result<Ended, RunError>
@@ -109,7 +109,7 @@ fn run_named<'s, 'r, 'p, 't, J: RunId>(
     Ok(ended_of(alloc, book, refused)?)
 }
 
-/// The run over what was read, with a shelf for the modules.
+/// The run over the files that were read, with a shelf for the modules.
 fn run_over<'s, 'r, 't>(
     alloc: Global,
     files: &'s Labels,
@@ -145,9 +145,9 @@ fn counts_of_one(begun: u32) -> [u32; 64]
 }
 
 /// Loads the roots by the caller's own thread: the modules of exactly the reached files, in order, each with its
-/// outcome; and the loads that were refused, each of which lies on a cycle of loads. The number of loaders is not read.
-/// The trees and what was read of the files stay with the caller. `Memory` if an allocation failed; `Unpublished`
-/// where a cell did not take its module or its tree.
+/// outcome, and the loads that were refused. Each of these lies on a cycle of loads. The number of loaders is not read.
+/// The trees and the readings of the files stay with the caller. `Memory` if an allocation failed. `Unpublished` where
+/// a cell did not take its module or its tree.
 pub fn run_alone<'t>(
     alloc: Global,
     files: &Labels,

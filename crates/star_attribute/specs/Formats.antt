@@ -6,14 +6,14 @@ use Rattle.star_meaning.specs.Format.{Outside, Reading, formatted}
 use Rattle.star_machine.specs.declared.fault.EvalError.{EvalError}
 use Rattle.star_machine.specs.Refines.{Ends}
 use Rattle.star_attribute.specs.declared.fields.Numbering.{Numbering}
-use Rattle.star_method.specs.declared.call.Call.{Call}
+use Rattle.star_machine.specs.declared.call.Call.{Call}
 use Rattle.star_attribute.specs.Fields.{as_numbering}
 
 -- the text that a call makes of the bytes of its format, from a position on, and of the text so far
 abbrev pub formatting : Call → List ℕ → Reading → Numbering → List ℕ → Action (List ℕ)
 formatting c t r k out = formatted c.setting.now c.levels c.line c.given.now t r (as_numbering k) out
 
--- The text is the one that reading on makes, outside of braces; or the fault is that of its definition.
+-- The text is the one that reading on makes, outside of braces; or the fault is the one of its definition.
 abbrev pub ReadsOn : {Z : Type 0} → Call → Outcome (List ℕ)
     → Result (Bor (List ℕ) × Numbering) EvalError → String Z → State → Type 0
 ReadsOn c read (Ok r) made new = read ≡ formatting c r.0.now Outside r.1 (string_bytes made) new

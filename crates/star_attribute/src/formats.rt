@@ -13,17 +13,17 @@ ghost use Rattle.star_meaning.specs.TextMethods as methods;
 ghost use Rattle.star_meaning.specs.Values.{content};
 
 use crate::fields::{Numbering, field_text};
+use star_machine::call::Call;
 use star_machine::cuts::{cut_at, first_ascii};
 use star_machine::fault::{EvalError, fault_at};
 use star_machine::machine::Machine;
 use star_meaning::fault::FaultCode;
-use star_method::call::Call;
 use star_method::texts::pay_for_bytes;
 use star_store::values::Value;
 use star_text::Text;
 
-/// Puts the text for the braces after a `{`: that of a field's value, or a `{` for another `{`. Returns the rest of the
-/// format, and how fields find their values from then on. `BadValue` if no brace follows, and for a `{` inside of a
+/// Puts the text for the braces after a `{`: the text of a field's value, or a `{` for another `{`. Returns the rest of
+/// the format, and how fields find their values from then on. `BadValue` if no brace follows, and for a `{` inside of a
 /// field.
 fn read_field<'a>(
     machine: &mut Machine,

@@ -11,20 +11,20 @@ ghost use Rattle.star_outline.specs.Names.{same_name};
 ghost use Rattle.star_store.specs.Names.{method_name};
 
 use crate::formats::call_format;
+use star_machine::call::Call;
 use star_machine::content::Content;
 use star_machine::fault::{EvalError, fault_at};
 use star_machine::machine::Machine;
 use star_machine::setting::Setting;
 use star_meaning::fault::FaultCode;
 use star_meaning::given::Arguments;
-use star_method::call::Call;
 use star_method::dicts::{
     Keyed, Listed, call_get, call_keyed, call_listed, call_popitem, call_update,
 };
 use star_method::lists::{
     call_append, call_clear, call_extend, call_index, call_insert, call_pop, call_remove,
 };
-use star_method::parts::{call_replace, call_split};
+use star_method::split::{call_replace, call_split};
 use star_method::texts::{Case, Edge, call_case, call_edge, call_find, call_join, call_strip};
 use star_store::names::Method;
 use star_store::values::{Cell, Value};

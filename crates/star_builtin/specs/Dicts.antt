@@ -9,7 +9,7 @@ use Rattle.star_meaning.specs.declared.given.KeywordArgument.{KeywordArgument}
 use Rattle.star_meaning.specs.Run.{State, Action, Outcome, Done, ◌>>=◌, give, seeing}
 use Rattle.star_machine.specs.Refines.{Ends}
 
--- A function that puts something into entries leaves those of its definition.
+-- A function that puts something into entries leaves the entries that its definition says.
 abbrev pub Puts : Outcome (List (Value × Value)) → Result (Unit {0}) EvalError → List (Value × Value) → State → Type 0
 Puts o (Ok x) entries new = o ≡ Done entries new
 Puts o (Err e) entries new = Ends o e new

@@ -1,4 +1,4 @@
--- Built-in functions that one function of the code does, by what is asked for.
+-- Built-in functions that share one function of the code, by the choice that it is given.
 use Rattle.std.specs.Prelude.{ℕ}
 use Rattle.star_store.specs.declared.values.Value.{Value}
 use Rattle.star_builtin.specs.declared.print.Form.{Form}

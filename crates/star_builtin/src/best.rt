@@ -5,11 +5,11 @@ ghost use Rattle.star_meaning.specs.BuiltIns as spec;
 ghost use Rattle.star_machine.specs.Refines.{Refines};
 ghost use Rattle.star_builtin.specs.Best.{better, best_among};
 
+use star_machine::call::Call;
 use star_machine::fault::{EvalError, fault_at};
 use star_machine::machine::Machine;
 use star_machine::setting::Setting;
 use star_meaning::fault::FaultCode;
-use star_method::call::Call;
 use star_store::values::Value;
 use std::cmp::Ordering;
 

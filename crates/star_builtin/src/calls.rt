@@ -11,11 +11,11 @@ use crate::ranges::call_range;
 use crate::rows::{Row, call_enumerate, call_reversed, call_row, call_zip};
 use crate::sorted::call_sorted;
 use crate::truths::{call_all, call_any, call_bool};
+use star_machine::call::Call;
 use star_machine::fault::EvalError;
 use star_machine::machine::Machine;
 use star_machine::setting::Setting;
 use star_meaning::given::Arguments;
-use star_method::call::Call;
 use star_store::names::BuiltIn;
 use star_store::values::Value;
 

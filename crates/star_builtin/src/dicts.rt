@@ -1,21 +1,21 @@
 //! `dict`: pairs and keyword arguments are gathered into a new dictionary. The pairs of a value are those that `update`
-//! puts in (`star_method::pairs`).
+//! puts in (`star_machine::pairs`).
 
 ghost use Rattle.std.specs.Prelude.{[], IfOk, OnOk};
 ghost use Rattle.star_meaning.specs.BuiltIns.{call_dict};
 ghost use Rattle.star_machine.specs.DictBuilder.{IsGathered};
 ghost use Rattle.star_machine.specs.Refines.{Refines, RefinesBy};
 ghost use Rattle.star_meaning.specs.Pairs as spec;
-ghost use Rattle.star_method.specs.DictBuilder.{as_pairs};
+ghost use Rattle.star_machine.specs.Pairs.{as_pairs};
 ghost use Rattle.star_builtin.specs.Dicts.{Puts, put_named};
 
+use star_machine::call::Call;
 use star_machine::fault::EvalError;
 use star_machine::gathered::DictBuilder;
 use star_machine::machine::Machine;
+use star_machine::pairs::{Pairs, check_pair, pairs_count, pairs_of};
 use star_machine::setting::Setting;
 use star_meaning::given::KeywordArgument;
-use star_method::call::Call;
-use star_method::pairs::{Pairs, check_pair, pairs_count, pairs_of};
 use star_store::values::{Entries, Value};
 
 /// Puts a pair in, whose key is checked unless it is a key already. `BadType` if it is not hashable.

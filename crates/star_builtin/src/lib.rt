@@ -1,11 +1,11 @@
 //! The built-in functions (`docs/LANGUAGE.md`, "Built-in functions").
 //!
-//! Begin at `calls::run_built_in`, the `match` over all of them. Each other file has one function or a group. In a
-//! file the work on values comes first, and the functions `call_..` at its end unpack the arguments and do that work.
-//! Two that differ in one step are one function, which is told which of them is called.
+//! Begin at `calls::run_built_in`, the `match` over all of them. Each other file has one function or a group. In a file
+//! the work on values comes first, and the functions `call_..` at its end unpack the arguments and do that work. Two
+//! built-in functions that differ in one step share one function, which is given the choice between them.
 //!
 //! No built-in function runs a function of the program: `sorted` takes `reverse` and no `key`. Each is given a `Call`,
-//! the type of `star_method`; `Best`, `Form` and `Row` say which of two functions is called. It has no state.
+//! the type of `star_machine`; `Best`, `Form` and `Row` say which of two functions is called. It has no state.
 //!
 //! The promise of each `call_..` is `Refines` of `star_machine`: it has the result of its definition in
 //! `star_meaning/specs/BuiltIns`, the fault, the payments and the printed lines included.

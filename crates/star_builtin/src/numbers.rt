@@ -8,12 +8,12 @@ ghost use Rattle.star_builtin.specs.Parts as part;
 
 use crate::ints::narrow;
 use crate::spelling::spelled;
+use star_machine::call::Call;
 use star_machine::content::Content;
 use star_machine::fault::{EvalError, fault_at};
 use star_machine::machine::Machine;
 use star_machine::setting::Setting;
 use star_meaning::fault::FaultCode;
-use star_method::call::Call;
 use star_store::values::{Cell, Value};
 
 /// How far an int lies from 0. `Overflow` for the least one.

@@ -9,12 +9,12 @@ ghost use Rattle.star_meaning.specs.Values.{str, type_name};
 ghost use Rattle.star_builtin.specs.Forms.{call_text};
 ghost use Rattle.star_builtin.specs.Parts as part;
 
+use star_machine::call::Call;
 use star_machine::content::Content;
 use star_machine::fault::{EvalError, fault_at};
 use star_machine::machine::Machine;
 use star_machine::setting::Setting;
 use star_meaning::fault::FaultCode;
-use star_method::call::Call;
 use star_store::values::{Cell, Value};
 use star_text::Text;
 use std::alloc::{AllocError, Global};

@@ -11,10 +11,10 @@ ghost use Rattle.star_builtin.specs.Forms.{call_row};
 ghost use Rattle.star_builtin.specs.Parts as part;
 
 use crate::ints::narrow;
+use star_machine::call::Call;
 use star_machine::fault::EvalError;
 use star_machine::machine::Machine;
 use star_machine::setting::Setting;
-use star_method::call::Call;
 use star_store::values::{Value, Values};
 use std::alloc::{AllocError, Global};
 

@@ -11,12 +11,12 @@ ghost use Rattle.star_machine.specs.Refines.{Refines};
 ghost use Rattle.star_meaning.specs.Values.{content};
 ghost use Rattle.star_builtin.specs.Orders.{by_contents, int_in};
 
+use star_machine::call::Call;
 use star_machine::content::Content;
 use star_machine::fault::{EvalError, fault_at};
 use star_machine::machine::Machine;
 use star_machine::setting::Setting;
 use star_meaning::fault::FaultCode;
-use star_method::call::Call;
 use star_store::values::{Cell, Value, Values};
 use std::alloc::AllocError;
 use std::cmp::Ordering;

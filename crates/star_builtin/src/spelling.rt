@@ -14,7 +14,7 @@ use crate::ints::narrow;
 use star_store::fault::StoreFault;
 
 /// A number above every int of 64 bits.
-const LIMIT: u128 = 1 << 64;
+const BEYOND: u128 = 1 << 64;
 
 /// Whether all bytes are decimal digits.
 fn are_digits(bytes: &[u8]) -> bool
@@ -36,8 +36,8 @@ fn number_from(digits: &[u8]) -> u128
     let mut number = 0;
     for digit in digits {
         number = number * 10 + digit.saturating_sub(b'0') as u128;
-        if number >= LIMIT {
-            return LIMIT;
+        if number >= BEYOND {
+            return BEYOND;
         }
     }
     number

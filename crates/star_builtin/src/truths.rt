@@ -5,10 +5,10 @@ ghost use Rattle.star_meaning.specs.BuiltIns as spec;
 ghost use Rattle.star_machine.specs.Refines.{Refines};
 ghost use Rattle.star_meaning.specs.Run.{Done, until};
 
+use star_machine::call::Call;
 use star_machine::fault::EvalError;
 use star_machine::machine::Machine;
 use star_machine::setting::Setting;
-use star_method::call::Call;
 use star_store::values::Value;
 
 /// Takes an item: whether its truth is the one looked for.

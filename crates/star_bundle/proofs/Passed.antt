@@ -9,6 +9,6 @@ pub fails_so : {Y : Type 0} (e : ServeError) (given : Result Y ServeError) → I
 fails_so error.Memory given h k = absurd h
 fails_so e given h k = k
 
--- the numbers of the first roots, and those of the others
+-- the numbers of the first roots, and the numbers of the others
 abbrev pub after : List ℕ → Result (List ℕ) ServeError → Result (List ℕ) ServeError
 after front r = r >>= λ ns. Ok (front ++ ns)

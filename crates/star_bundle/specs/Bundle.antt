@@ -85,7 +85,7 @@ prelude_of files (Some word) = do
   n ← number_of BadPrelude NoPrelude files word
   Ok (Some n)
 
--- an input: the files, the numbers of the roots and that of the prelude
+-- an input: the files, the numbers of the roots and the number of the prelude
 pub record Asked : Type 0 where
   pub files : List File
   pub roots : List ℕ

@@ -27,7 +27,7 @@ status_of (Ok true) = 0
 status_of (Ok false) = 1
 status_of (Err e) = 2
 
--- The answer of a function, seen by `view`, is that of the definition, unless memory ran out.
+-- The answer of a function, seen by `view`, is the answer of the definition, unless memory ran out.
 abbrev pub Fails : {Y : Type 0} → ServeError → Result Y ServeError → Type 0
 Fails Memory given = ⊤
 Fails e given = given ≡ Err e

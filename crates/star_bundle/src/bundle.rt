@@ -1,4 +1,4 @@
-//! The bundle: a JSON object from labels in normal form to texts; and the files that the command line names.
+//! The bundle, a JSON object from labels in normal form to texts, and the files that the command line names.
 
 ghost use Rattle.std.specs.Prelude.{◌≡◌, ◌<◌, IfOk, IfSome, All, length, map, option_map, string_bytes};
 ghost use Rattle.serde_json.specs.Find.{as_object, as_str};
@@ -28,7 +28,7 @@ fn into_text(value: Value) -> Option<String>
     }
 }
 
-/// The members of an object; `None` for another value.
+/// The members of an object. `None` for another value.
 pub fn into_members(value: Value) -> Option<Map<String, Value>>
     ensures { option_map (λ m. members_view m.entries) result ≡ as_object (view value) }
 {
@@ -38,7 +38,7 @@ pub fn into_members(value: Value) -> Option<Map<String, Value>>
     }
 }
 
-/// The JSON value of the bytes; `None` if they are no JSON.
+/// The JSON value of the bytes. `None` if they are not JSON.
 pub fn json_in(alloc: Global, bytes: &[u8]) -> Result<Option<Value>, AllocError>
     ensures { IfOk result (λ value. option_map view value ≡ json_of bytes.now) }
 {
@@ -54,7 +54,7 @@ pub fn json_in(alloc: Global, bytes: &[u8]) -> Result<Option<Value>, AllocError>
     }
 }
 
-/// The label whose normal form a text is; `None` for another text.
+/// The label whose normal form a text is. `None` for another text.
 pub fn normal_label(alloc: Global, text: &str) -> Result<Option<Label>, AllocError>
     ensures { IfOk result (λ label. option_map text_of label ≡ if_label text.now) }
 {
@@ -198,7 +198,7 @@ pub fn prelude_in(
     Ok(Some(n))
 }
 
-/// The input: the files, the numbers of the roots, and that of the prelude.
+/// The input: the files, the numbers of the roots, and the number of the prelude.
 #[derive(Drop)]
 pub struct AskedFor {
     pub files: Files,
@@ -206,8 +206,8 @@ pub struct AskedFor {
     pub prelude: Option<usize>,
 }
 
-/// Finds the roots and the prelude, as the words of the command line name them, among these files. The refusals come in
-/// this order: those of the roots, those of the prelude.
+/// Finds the roots and the prelude, as the words of the command line name them, among these files. The refusals of the
+/// roots come before those of the prelude.
 #[tactic(auto, unfolding(crate::specs::Bundle::asked_among))]
 pub fn asked_in(
     alloc: Global,
@@ -229,8 +229,8 @@ pub fn asked_in(
     })
 }
 
-/// The input, by the bytes of a bundle and the words of the command line. The refusals come in this order: those of the
-/// bundle, those of the roots, those of the prelude.
+/// The input, by the bytes of a bundle and the words of the command line. The refusals of the bundle come first, then
+/// those of the roots, then those of the prelude.
 #[tactic(auto, unfolding(crate::specs::Bundle::asked_of))]
 pub fn asked_for(
     alloc: Global,

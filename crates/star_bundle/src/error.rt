@@ -39,7 +39,7 @@ pub enum ServeError {
     NoPrelude,
     /// An allocation failed. It may come at any point.
     Memory,
-    /// A write failed; the output may be partial.
+    /// A write failed. The output may be partial.
     Write,
     /// A cell did not take a module.
     Unpublished,

@@ -1,4 +1,4 @@
-//! Bundles: files that come as one JSON object, from labels to texts; and the refusals of the whole program
+//! Bundles, which are files that come as one JSON object from labels to texts, and the refusals of the whole program
 //! (`docs/REPORT.md`).
 //!
 //! - `bundle::asked_for` reads the bytes of a bundle and finds the roots and the prelude among its files. `AskedFor` is

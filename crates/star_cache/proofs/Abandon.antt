@@ -27,11 +27,11 @@ module _ {P : Type 0} (b : BookState P) (s : ℕ) (there : s < length b.loaders)
       let MakeLoaders : List LoaderState → BookState P = λ ls. record { entries = spoiled (stack_of b s) b.entries; loaders = ls } in
       ap Make at ∙ (ap MakeCount same_count ∙ (ap MakeEntries same_entries ∙ ap MakeLoaders (set-set b.loaders s l (record { stack = []; awaited = None; count = (loader_at b s).count }))))
 
-  -- to stop waiting changes nothing of it
+  -- stopping the wait first changes nothing of it
   pub after_abandon-wake : after_abandon (after_wake b s) s ≡ after_abandon b s
   after_abandon-wake = after_abandon-moved b.entries (record { stack = stack_of b s; awaited = None; count = (loader_at b s).count }) refl refl
 
-  -- nor does it to spoil the top first
+  -- nor does spoiling the top first
   pub after_abandon-end : (n : ℕ) → top_of (stack_of b s) ≡ Some n → after_abandon (after_end b s n Spoiled) s ≡ after_abandon b s
   after_abandon-end n top =
       after_abandon-moved (set b.entries n Spoiled) (record { stack = below_top (stack_of b s); awaited = awaited_by b s; count = (loader_at b s).count }) refl

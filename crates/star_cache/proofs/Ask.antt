@@ -1,4 +1,4 @@
--- What `ask` knows of its target.
+-- The facts that `ask` knows of its target.
 use Rattle.std.proofs.Common.{◌≡◌, ◌↔◌, ◌<◌, ℕ, zero, suc, List, [], ◌∷◌, Option, Some, None, Bool, true, MatchOption, length, sym, subst, ◌∙◌, inl, arith}
 use Rattle.star_cache.specs.declared.entry.Entry.TheVariants.{Running}
 use Rattle.star_cache.specs.declared.reply.Reply.{Reply}

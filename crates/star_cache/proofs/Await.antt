@@ -12,7 +12,7 @@ use Rattle.star_cache.proofs.Walks.{IsAcyclic-adds, IsAcyclic-fewer, AddsStep}
 use Rattle.star_cache.proofs.Lists.{same_or_apart}
 use Rattle.star_cache.proofs.RowsLemmas.{Represents, Represents-kept, StandsFor, row_at, no_row}
 
--- what the seat awaits has changed
+-- the entry that the seat awaits has changed
 module _ {P : Type 0} (b : BookState P) (s : ℕ) (o : Option ℕ) (there : s < length b.loaders) where
   loader_new : loader_at (awaits b s o) s ≡ record { stack = stack_of b s; awaited = o; count = (loader_at b s).count }
   loader_new = get_or-set_same b.loaders s _ idle there

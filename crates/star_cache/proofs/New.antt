@@ -75,7 +75,7 @@ module _ {P : Type 0} (loads : ℕ → List ℕ) (Reached : ℕ → Type 0) (Rig
 pub replicate-push : {X : Type 0} (n : ℕ) (x : X) (xs : List X) → xs ≡ replicate n x → xs ++ x ∷ [] ≡ replicate (n + 1) x
 replicate-push n x xs e = ap (λ v. v ++ x ∷ []) e ∙ replicate-append-replicate n 1 x
 
--- rows made by pushing are those of the fresh book
+-- rows made by pushing are the rows of the fresh book
 pub StandsFor-new : {P : Type 0} (loads : ℕ → List ℕ) (Reached : ℕ → Type 0) (Right : ℕ → P → Type 0) (files n seats i j : ℕ) (entries : List (Entry P)) (parents : List (Option ℕ)) (owners : List ℕ) (loaders : List Loader) → n ≡ files → n ≤ 10000 → seats ≤ 64 → i ≡ n → j ≡ seats → entries ≡ replicate i Fresh → parents ≡ replicate i None → owners ≡ replicate i 0 → loaders ≡ replicate j no_row → StandsFor loads Reached Right files entries parents owners loaders (fresh_book n seats)
 StandsFor-new {P} loads Reached Right files n seats i j entries parents owners loaders same few seats_few done_i done_j e p o l =
     let Row : ℕ → List (Entry P) = λ k. replicate k Fresh in

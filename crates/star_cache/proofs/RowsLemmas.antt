@@ -7,7 +7,7 @@ use Rattle.star_cache.specs.declared.book.Loader.{Loader}
 use Rattle.star_cache.specs.State.{BookState, LoaderState, IsLawful, IsIn, idle, loader_at, stack_of, is_begun, begun_count}
 use Rattle.star_cache.specs.Rows.{book_state, loader_state, parent_of, chain, IsChain, IsKept}
 
--- a row that says nothing
+-- the row of a loader that has done nothing
 abbrev pub no_row : Loader
 no_row = record { top = None; awaited = None; count = 0 }
 

@@ -1,4 +1,4 @@
--- The book of the cache and its calls; `Headline` has the main promise. In reading order: State, Step, Seats, Headline.
+-- The book of the cache and its calls. `Headline` has the main promise. In reading order: State, Step, Seats, Headline.
 pub mod Walk
 pub mod State
 pub mod Rows

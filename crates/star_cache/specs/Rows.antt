@@ -21,16 +21,16 @@ abbrev pub IsChain : List (Option ℕ) → Option ℕ → List ℕ → Type 0
 IsChain parents top [] = top ≡ None
 IsChain parents top (e ∷ below) = (top ≡ Some e) × IsChain parents (parent_of parents e) below
 
--- the loader that a row is, its stack as deep as there are entries at most
+-- the loader that a row represents. Its stack is at most as deep as there are entries
 abbrev pub loader_state : List (Option ℕ) → Loader → LoaderState
 loader_state parents l = record { stack = chain (length parents) parents l.top; awaited = l.awaited; count = l.count }
 
 module _ {P : Type 0} where
-  -- the book that the rows are
+  -- the book that the rows represent
   abbrev pub book_state : List (Entry P) → List (Option ℕ) → List Loader → BookState P
   book_state entries parents loaders = record { entries = entries; loaders = map (loader_state parents) loaders }
 
--- the rows fit each other, and are a lawful book
+-- the rows fit each other, and represent a lawful book
 pub record IsKept {P : Type 0} (loads : ℕ → List ℕ) (Reached : ℕ → Type 0) (Right : ℕ → P → Type 0) (files : ℕ)
     (entries : List (Entry P)) (parents : List (Option ℕ)) (owners : List ℕ) (loaders : List Loader) : Type 0 where
   pub size : length entries ≡ files

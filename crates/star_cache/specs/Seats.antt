@@ -26,7 +26,7 @@ module _ {P : Type 0} where
   abbrev pub counts_of : BookState P → List ℕ
   counts_of b = map (λ (l : LoaderState). l.count) b.loaders ++ replicate (64 - length b.loaders) 0
 
-  -- `ask` of a seat: its result, and the book and the seat that it leaves, which are the old ones if it is refused
+  -- `ask` of a seat: its result, and the book and the seat after it, which are the old ones if it is refused
   abbrev pub SeatAsks : (P → Bool) → Bool → BookState P → SeatState → Option ℕ → ℕ → Result (Reply P) BookError
       → BookState P → SeatState → Type 0
   SeatAsks good always b seat parent n result after seat_after =

@@ -86,7 +86,7 @@ pub record IsLawful {P : Type 0} (loads : ℕ → List ℕ) (Reached : ℕ → T
     (b : BookState P) : Type 0 where
   -- no loader waits, over any number of others, for itself
   pub acyclic : IsAcyclic (Links b)
-  -- an entry runs exactly if it is in a stack; it is there once, in one stack
+  -- an entry runs exactly if it is in a stack. It is there once, in one stack
   pub stacked : (e : ℕ) → entry_at b e ≡ Running → (s : ℕ) × IsIn e (stack_of b s)
   pub runs : (s e : ℕ) → IsIn e (stack_of b s) → entry_at b e ≡ Running
   pub once : (s : ℕ) → IsSet (stack_of b s)

@@ -10,7 +10,7 @@ abbrev pub IsCyclic : (ℕ → List ℕ) → Option ℕ → ℕ → Type 0
 IsCyclic loads None n = ⊥
 IsCyclic loads (Some parent) n = IsOnCycle (Loads loads) parent n
 
--- a product is right for the file, and `Ready` exactly if the file is good; the replies Cycle and Wait carry the facts
+-- a product is right for the file, and `Ready` exactly if the file is good. The replies Cycle and Wait carry the facts
 -- that are given for them
 abbrev pub Tells : {P : Type 0} (IsRight : ℕ → P → Type 0) (IsGood : ℕ → Type 0) (IsRefused : Type 0) (MayWait : Type 0)
     → ℕ → Reply P → Type 0

@@ -261,7 +261,7 @@ impl<P: Product> Book<P> {
 
     /// Asks again for the file that the seat awaits.
     ///
-    /// It is `Wait` while the file runs, and then the seat awaits it still; else the answer is as of `ask`, and the
+    /// The reply is `Wait` while the file runs, and the seat still awaits it. Else the reply is as of `ask`, and the
     /// seat awaits nothing. Refused as `NoSuch`, `NotWaiting` and `Memory`, the first that applies.
     pub fn wake(&mut self, seat: usize) -> Result<Reply<P>, BookError>
         ensures step { Wakes P.is_good P.always_shares self.old seat result self.new }
@@ -300,7 +300,7 @@ impl<P: Product> Book<P> {
 
     /// The file on top of the seat's stack has ended with this product, which is right for it.
     ///
-    /// Refused as `NoSuch`, `Waiting` and `NotTop`, the first that applies; the product comes back then.
+    /// Refused as `NoSuch`, `Waiting` and `NotTop`, the first that applies. Then the product comes back.
     pub fn finish(&mut self, seat: usize, n: usize, product: P) -> Result<(), (BookError, P)>
         requires right { P.IsRight n product }
         ensures step { Finishes self.old seat n product result self.new }

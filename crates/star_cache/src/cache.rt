@@ -1,10 +1,10 @@
 //! The cache: the book under its lock, with the ledger of how many files the seats have begun.
 //!
-//! All work under the lock is a method of `State` with a full contract; `LoadCache` only locks, calls and notifies. A
+//! All work under the lock is a method of `State` with a full contract. `LoadCache` only locks, calls and notifies. A
 //! waiting thread loops over `wait` and not `wait_while`, since the answer must come from the hold of the lock that
 //! tested it.
 //!
-//! The ledger's total is tied to the sum of the loaders' counts, and to the entries begun only by the book's own law:
+//! The ledger's total is tied to the sum of the loaders' counts. Only the book's own law ties it to the entries begun:
 //! each step changes the sum at one loader, and none counts entries. "All seats" means as many as there are loaders,
 //! with each number among them. Their shares are merged into an empty one, so `close` needs no first seat.
 
@@ -30,7 +30,7 @@ use std::sync::{Condvar, Mutex, Wait};
 struct State<P: Product> {
     book: Book<P>,
     ledger: Ledger<P::Name>,
-    // The share that no seat has. It has no part and no amount; the seats' shares are merged into it at the end.
+    // The share that no seat has. It has no part and no amount. The seats' shares are merged into it at the end.
     rest: Share<P::Name>,
 }
 
@@ -140,7 +140,7 @@ fn has<P: Product>(seats: &[Seat<P>], number: usize) -> bool
     seats.iter().any(|s| s.number == number)
 }
 
-// Whether the seats are all those of a cache.
+// Whether these are all the seats of a cache.
 fn are_all<P: Product>(seats: &[Seat<P>], loaders: usize) -> bool
     ensures { IsTrue result ↔ AreAll loaders seats.now }
 {
@@ -183,7 +183,7 @@ fn counts<P: Product>(book: &Book<P>) -> [u32; 64]
 
 /// The book under its lock, for many threads at once, each with a seat of its own.
 ///
-/// A call holds the lock for one step of the book and no longer; no guard is handed out. Nothing that is learnt in one
+/// A call holds the lock for one step of the book and no longer. No guard is handed out. Nothing that is learnt in one
 /// call is known of the book at the next, but an answer about a file stays true: a file has one outcome.
 #[derive(Drop)]
 pub struct LoadCache<P: Product> {
@@ -254,7 +254,7 @@ impl<P: Product> LoadCache<P> {
 
     /// The file on top of the seat's stack has ended with this product, which is right for it. All that wait are woken.
     ///
-    /// Refused as the book refuses it; the product comes back then.
+    /// Refused as the book refuses it. Then the product comes back.
     pub fn finish<R: Wait>(
         &self,
         rt: &R,
@@ -285,7 +285,7 @@ impl<P: Product> LoadCache<P> {
     /// Takes the seats back, and answers the book with the loaders' counts in the order of their seats, 0 after the
     /// last.
     ///
-    /// Refused if the seats are not all of the cache's; everything comes back then.
+    /// Refused if these are not all the cache's seats. Then everything comes back.
     pub fn close(
         mut self,
         seats: Vec<Seat<P>>,
@@ -305,7 +305,7 @@ impl<P: Product> LoadCache<P> {
 
     /// Closes as `close` does, with all the cache's seats, if each of these files has ended with a product.
     ///
-    /// Refused if one of them has not; everything comes back then.
+    /// Refused if one of them has not. Then everything comes back.
     pub fn close_ended(
         self,
         seats: Vec<Seat<P>>,

@@ -6,7 +6,7 @@
 //!   for. Its calls `ask`, `wake`, `finish` and `abandon` are one step each.
 //! - `LoadCache` is a book under a lock. Its `ask` waits until the book has an answer.
 //! - `Seat` is a loader's token for the cache. It cannot be copied, and it knows how many files its loader has begun.
-//! - `Product` is the result that a file leaves in its entry. The cache is generic over it; the host uses
+//! - `Product` is the result that a file leaves in its entry. The cache is generic over it. The host uses
 //!   `star_outcome::told::Told`.
 //!
 //! Begin at `Book::ask` in `book.rt`, and read its comment first: it finds a cycle of loads by following the loaders
@@ -14,8 +14,8 @@
 //!
 //! Invariant: every book is lawful. No loaders wait for one another in a ring, each running file is on the stack of one
 //! loader, each product is right for its file, and the counts are honest. The type `Book` carries it, so it holds
-//! whenever the lock is free. The main promise is `Headline` in `specs/Headline`; `specs/Step` is a table of what each
-//! call answers and changes. `docs/LOADING.md` tells the protocol in words.
+//! whenever the lock is free. The main promise is `Headline` in `specs/Headline`. `specs/Step` is a table of the
+//! answers and changes of each call. `docs/LOADING.md` describes the protocol in words.
 #![tactic(auto)]
 
 mod book;

@@ -1,6 +1,6 @@
 //! The answers of the book, and its refusals.
 //!
-//! `Book::new` and `share` answer `AllocError`, since only memory refuses them; calls with other refusals answer
+//! `Book::new` and `share` answer `AllocError`, since only memory refuses them. Calls with other refusals answer
 //! `BookError`.
 
 use thiserror::Error;
@@ -22,8 +22,8 @@ pub enum Reply<P> {
     Wait,
 }
 
-/// Why the book refuses a call. Where several apply, the first in this order is answered; a refused call of
-/// the book changes nothing.
+/// Why the book refuses a call. If several apply, the first in this order is answered. A refused call of the book
+/// changes nothing.
 #[derive(Clone, Copy, Debug, PartialEq, Eq, Error)]
 pub enum BookError {
     /// No seat has this number.

@@ -9,7 +9,7 @@ use std::sync::ledger::Share;
 
 /// A loader's place in a cache. It can't be copied, so each seat is used by one loader at a time.
 ///
-/// It holds a share of the cache's ledger. The share takes no bytes; its amount, which only contracts see, is the
+/// It holds a share of the cache's ledger. The share takes no bytes. Its amount, which only contracts see, is the
 /// number of the seat's `Begun` replies.
 #[derive(Drop)]
 pub struct Seat<P: Product> {

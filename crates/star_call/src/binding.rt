@@ -10,7 +10,7 @@ ghost use Rattle.star_call.specs.Seen.{has};
 ghost use Rattle.star_call.specs.BoundArguments.{all_named};
 ghost use Rattle.star_call.specs.Steps.{IsStep, next_default, past_default, progress_of};
 
-use crate::names::{ByName, FEW};
+use crate::names::{ByName, MAP_ABOVE};
 use crate::shares::{BoundArgument, BoundArguments};
 use star_meaning::given::{Arguments, KeywordArgument};
 use star_store::values::Value;
@@ -35,7 +35,7 @@ struct BoundParameter<'t, 'g, 'd> {
     progress: BindingState<'g, 'd>,
 }
 
-/// The keyword arguments, and those of them that name no parameter.
+/// The keyword arguments, and the ones among them that name no parameter.
 #[derive(Drop)]
 struct Names<'g> {
     all: ByName<'g>,
@@ -106,7 +106,7 @@ impl<'t> Model for OwnNames<'t> {
 }
 
 impl<'t> OwnNames<'t> {
-    /// Those of these parameters; `names` names will be looked up.
+    /// The keywords of these parameters; `names` names will be looked up.
     fn of(
         alloc: Global,
         parameters: &'t [Parameter],
@@ -114,7 +114,7 @@ impl<'t> OwnNames<'t> {
     ) -> Result<OwnNames<'t>, AllocError>
         ensures { IfOk result (λ own. own ≡ spec.keywords_of parameters.now) }
     {
-        if names <= FEW || parameters.len() <= FEW {
+        if names <= MAP_ABOVE || parameters.len() <= MAP_ABOVE {
             return Ok(OwnNames {
                 parameters,
                 names: None,
@@ -302,15 +302,15 @@ impl<'g> Names<'g> {
 /// - Positional arguments fill `a` and `b` from the left; those left over go to `*rest`.
 /// - A keyword argument fills the parameter of its name, before or after the star; one that names no parameter goes to
 ///   `**names`.
-/// - A parameter that got nothing takes its default. `defaults` are those of `b` and `d`, in order.
+/// - A parameter that got nothing takes its default. `defaults` are the values for `b` and `d`, in order.
 ///
 /// `None` if a parameter without a default gets nothing, if one gets a positional and a keyword argument, or if an
 /// argument is left over without a `*rest` or `**names` for it.
 ///
-/// This way takes every call. Two shorter ways are proved to give the same: `enter_positional` of `star_enter`, if all
-/// arguments are positional and all parameters plain names, puts them straight into the frame; `bound_of` of
-/// `star_enter`, for definitions with more than 16 parameters, fills a frame that begins with the defaults.
-/// `call_function` of `star_eval` chooses among the three.
+/// This way takes every call. Two shorter ways of `star_enter` are proved to give the same. `enter_positional` puts the
+/// arguments straight into the frame, if all are positional and all parameters plain names. `bound_of`, for definitions
+/// with more than 16 parameters, fills a frame that begins with the defaults. `call_function` of `star_eval` chooses
+/// among the three.
 #[tactic(auto, unfolding(star_meaning::specs::Binding::bound_to))]
 pub fn bound_to<'t, 'g>(
     alloc: Global,

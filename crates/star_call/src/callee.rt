@@ -1,7 +1,7 @@
 //! The callee of a call: a function, a built-in function or a bound method; and the binding of its parameters.
 //!
-//! A function's definition is handed to `Callee::of`, which so needs no table of programs. A called function is kept as
-//! the value that leads to it, so a call copies neither names nor defaults.
+//! `Callee::of` gets the function's definition, so it needs no table of programs. A called function is kept as the
+//! value that leads to it, so a call copies neither names nor defaults.
 
 ghost use Rattle.std.specs.Prelude.{◌≡◌, IfOk};
 ghost use Rattle.std.specs.Option.{option_map};
@@ -43,7 +43,7 @@ pub enum Callee<'t> {
     AMethod(Method, Value),
 }
 
-/// The defaults of a function; those of another value are empty.
+/// The defaults of a function; no defaults for another value.
 fn defaults_of<'a>(machine: &'a Machine, setting: &'a Setting<'a>, value: Value) -> &'a [Value]
     ensures { result.now ≡ defaults_in (content setting.now machine.now value) }
 {
@@ -75,7 +75,7 @@ impl<'t> Called<'t> {
 }
 
 /// A function that is called, with its definition, if it has one. `Recursion` if the definition is active, `BadType` if
-/// there is none.
+/// there is no definition.
 fn function_callee<'t>(
     machine: &Machine,
     line: usize,

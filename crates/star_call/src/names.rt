@@ -12,7 +12,7 @@ use std::collections::BTreeMap;
 use std::marker::Model;
 
 /// Up to this many names are compared one by one; more are looked for in a map.
-pub(crate) const FEW: usize = 8;
+pub(crate) const MAP_ABOVE: usize = 8;
 
 /// Whether a name is among those given.
 pub(crate) fn is_given(name: &str, named: &[KeywordArgument]) -> bool
@@ -56,7 +56,7 @@ fn few_come_twice(named: &[KeywordArgument]) -> bool
 pub(crate) fn comes_twice(alloc: Global, named: &[KeywordArgument]) -> Result<bool, AllocError>
     ensures { IfOk result (λ twice. twice ≡ spec.comes_twice named.now) }
 {
-    if named.len() <= FEW {
+    if named.len() <= MAP_ABOVE {
         return Ok(few_come_twice(named));
     }
     let mut seen: BTreeMap<&str, ()> = BTreeMap::new(alloc);
@@ -113,7 +113,7 @@ impl<'g> ByName<'g> {
     ) -> Result<ByName<'g>, AllocError>
         ensures { IfOk result (λ named. named ≡ all.now) }
     {
-        if all.len() <= FEW || names <= FEW {
+        if all.len() <= MAP_ABOVE || names <= MAP_ABOVE {
             return Ok(ByName { all, first: None });
         }
         let first = Some(first_values(alloc, all)?);

@@ -1,4 +1,4 @@
-//! The arguments of a call, evaluated: those of `*` and `**` are unpacked among the others.
+//! The arguments of a call, evaluated. The ones after `*` and `**` are unpacked among the others.
 //!
 //! The names of a `**` dictionary are copied before their steps are paid, since all keys are checked before any
 //! payment.

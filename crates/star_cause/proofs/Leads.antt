@@ -24,7 +24,7 @@ lead_of : (plan : Plan) (nexts : Nexts) → AreNextsOf plan nexts → (n m : ℕ
 lead_of plan nexts are n m [] way = way
 lead_of plan nexts are n m (x ∷ xs) way = (way.0, (way.1.0, (are n way.1.0).0 way.1.1, lead_of plan nexts are way.1.0 m xs way.1.2))
 
--- a file by which another fails is reached, as that one is, and is not good
+-- a file by which another fails is reached if that one is, and is not good
 fails_reached : (plan : Plan) (n k : ℕ) → FailsBy plan n k → IsReached plan n → IsReached plan k
 fails_reached plan n k (i, bad, at) reached = load reached (contained (loaded plan n) i k at)
 
@@ -87,7 +87,7 @@ end_known nexts ends n o are less read is =
     let no : ⊥ = cc in
     no
 
--- the files of a cycle, as many as it has, are those that were gone through
+-- the first files of the path from a cycle's first file, as many as the cycle has, are the files of the cycle
 pub cycle_is : (nexts : Nexts) (n first count : ℕ) (ms files : List ℕ) → length (first ∷ ms) ≡ count → EndsIn nexts n (Cycle (first ∷ ms)) → IsTrail nexts first count files → EndsIn nexts n (Cycle files)
 cycle_is nexts n first count ms files size ends (m, way, long) =
     let same : first ∷ ms ≡ files = same_way nexts first first m (first ∷ ms) files (size ∙ sym long) ends.2 way in

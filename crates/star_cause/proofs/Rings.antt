@@ -1,4 +1,4 @@
--- Where the ways of the files on a way end.
+-- The ends of the ways of the files on a way.
 use Rattle.std.proofs.Common.{arith, ◌≡◌, ◌<◌, ◌≤◌, ◌+◌, ◌-◌, ◌⊎◌, inl, inr, ℕ, Bool, true, false, List, [], ◌∷◌, ◌++◌, length, take, drop, get_or, if◌then◌else◌, nat_lt, Some, None, refl, ap, sym, subst, ◌∙◌, append_assoc, take-append-drop, length-append, length-drop, length-take-le, get_or-take, get_or-drop}
 use Rattle.std.specs.Prelude.{All, Contains, slice_get}
 use Rattle.std.proofs.lemmas.Bool.{cases_lt}

@@ -61,7 +61,7 @@ went_on nexts ends n files places at next within fresh off goes is =
       long = length-set places at (length files) ∙ is.long;
     }
 
--- of the files there are some that are not on the way
+-- some of the files are not on the way
 pub room : (nexts : Nexts) (ends : Ends) (n : ℕ) (files places : List ℕ) (at : ℕ) → (Contains files at → ⊥) → OnWay nexts ends n files places at → length files < length nexts
 room nexts ends n files places at off is =
     let more : length (files ++ at ∷ []) ≤ length nexts = differ_short (files ++ at ∷ []) (length nexts) (differ_pushed files at is.differ off) (All-push (λ x. x < length nexts) files at is.inside is.file) in

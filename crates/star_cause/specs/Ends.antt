@@ -11,7 +11,7 @@ use Rattle.star_cause.specs.Ways.{EndsIn, Goes, Nexts}
 abbrev pub AreWithin : Nexts → Type 0
 AreWithin nexts = (n m : ℕ) → Goes nexts n m → m < length nexts
 
--- the way from a file ends so
+-- the way from a file has this end
 abbrev pub HasEnd : Nexts → ℕ → End → Type 0
 HasEnd nexts n (Last m) = EndsIn nexts n (Culprit m)
 HasEnd nexts n (Around first count) =
@@ -27,7 +27,7 @@ IsKnown ends n = (e : End) × (slice_get ends n ≡ Some (Some e))
 abbrev pub IsFresh : Ends → ℕ → Type 0
 IsFresh ends n = slice_get ends n ≡ Some None
 
--- a known end is right, and if a file's end is known, that of its next file is
+-- a known end is right, and if a file's end is known, the end of its next file is known too
 pub record AreEnds (nexts : Nexts) (ends : Ends) : Type 0 where
   pub size : length ends ≡ length nexts
   pub right : (n : ℕ) (e : End) → slice_get ends n ≡ Some (Some e) → HasEnd nexts n e
@@ -50,7 +50,7 @@ ring_end files p i =
     if nat_lt i p then Around (slice_index files p) (length files - p)
     else Around (slice_index files i) (length files - p)
 
--- .. and of a way that stops so
+-- .. and of a way that stops for this reason
 abbrev pub end_on : List ℕ → WalkEnd → ℕ → End
 end_on files (Known e) i = e
 end_on files (Met p) i = ring_end files p i
@@ -59,7 +59,7 @@ abbrev pub IsPlaceOn : List ℕ → WalkEnd → Type 0
 IsPlaceOn files (Known e) = Unit {0}
 IsPlaceOn files (Met p) = p < length files
 
--- a way from a file stops so; with its files each next file is known
+-- a way from a file stops for this reason. The next file of each of its files is on it or is known
 pub record IsWalked (nexts : Nexts) (ends : Ends) (n : ℕ) (files : List ℕ) (stop : WalkEnd) : Type 0 where
   pub starts : Contains files n
   pub within : All (λ x. x < length nexts) files

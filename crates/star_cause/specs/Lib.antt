@@ -1,4 +1,4 @@
--- Words of the contract of causes; their definition is `Causes` of star_plan.
+-- Words of the contract of causes. Their definition is `Causes` of star_plan.
 pub mod Ways
 pub mod Ends
 pub mod Causes

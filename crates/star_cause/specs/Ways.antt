@@ -15,7 +15,7 @@ abbrev pub Way : Nexts → ℕ → List ℕ → ℕ → Type 0
 Way nexts n [] m = n ≡ m
 Way nexts n (x ∷ xs) m = (n ≡ x) × ((k : ℕ) × Goes nexts n k × Way nexts k xs m)
 
--- the path from a file ends at one that has no next file, or in a cycle, listed from its first file that is met; no
+-- the path from a file ends at one that has no next file, or in a cycle, listed from its first file that is met. No
 -- file occurs twice on it
 abbrev pub EndsIn : Nexts → ℕ → Cause → Type 0
 EndsIn nexts n (Culprit m) = (way : List ℕ) × Way nexts n way m × ((k : ℕ) → Goes nexts m k → ⊥)
@@ -23,7 +23,7 @@ EndsIn nexts n (Cycle []) = ⊥
 EndsIn nexts n (Cycle (m ∷ ms)) =
     (way : List ℕ) × Way nexts n way m × Way nexts m (m ∷ ms) m × AllDiffer (way ++ m ∷ ms)
 
--- the first files of the path from a file; the number says how many
+-- the first files of the path from a file. The number says how many
 abbrev pub IsTrail : Nexts → ℕ → ℕ → List ℕ → Type 0
 IsTrail nexts n count files = (m : ℕ) × Way nexts n files m × (length files ≡ count)
 

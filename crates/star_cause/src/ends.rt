@@ -51,7 +51,7 @@ fn ring_end_at(files: &[usize], place: usize, i: usize) -> End
 }
 
 impl WalkEnd {
-    /// The end of the file at a place of a way that stops so.
+    /// The end of the file at a place of a way that stops for this reason.
     fn end_at(self, files: &[usize], i: usize) -> End
         requires place { IsPlaceOn files.now self }
         requires i { i < length files.now }
@@ -65,7 +65,7 @@ impl WalkEnd {
 }
 
 /// The place of a file on a way, by the places that were noted of the files on it.
-fn place_of(files: &[usize], places: &[usize], n: usize) -> Option<usize>
+fn index_on_path(files: &[usize], places: &[usize], n: usize) -> Option<usize>
     requires file { n < length places.now }
     requires noted { AreNoted files.now places.now }
     ensures { MatchOption result (Contains files.now n → ⊥)
@@ -104,7 +104,7 @@ fn walk(
             let stop = WalkEnd::Known(end);
             return Ok(Walked { files, stop });
         }
-        if let Some(place) = place_of(&files, places.as_slice(), at) {
+        if let Some(place) = index_on_path(&files, places.as_slice(), at) {
             let stop = WalkEnd::Met(place);
             return Ok(Walked { files, stop });
         }
@@ -120,7 +120,7 @@ fn walk(
     }
 }
 
-/// The end of each file of a way is known.
+/// Sets the end of each file of a way.
 fn settle(ends: &mut Vec<Option<End>>, files: &[usize], stop: WalkEnd)
     requires place { IsPlaceOn files.now stop }
     requires within { All (λ n. n < vec_len ends.old) files.now }
@@ -131,7 +131,7 @@ fn settle(ends: &mut Vec<Option<End>>, files: &[usize], stop: WalkEnd)
     }
 }
 
-/// The end of a file is known, and that of each file on the way from it.
+/// Finds and sets the end of a file and of each file on the way from it.
 fn learn(
     alloc: Global,
     nexts: &[Option<usize>],

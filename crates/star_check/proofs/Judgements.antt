@@ -24,7 +24,7 @@ use Rattle.star_check.specs.Check.{FailsBy, GoodIsSound, IsCause, IsFirstLack, I
 contained : (xs : List ℕ) (i x : ℕ) → slice_get xs i ≡ Some x → Contains xs x
 contained xs i x at = (i, slice_get_within xs i x at, get_or_from_slice_get xs i x x at)
 
--- ---- what a plan's files need
+-- ---- the needs of a plan's files
 
 need_at : (plan : Plan) (n : ℕ) → slice_get (needs plan) n ≡ option_map needs_in (slice_get plan.reads n)
 need_at plan n = slice_get-map needs_in plan.reads n
@@ -35,7 +35,7 @@ loads_needed (Some None) ns e = absurd (let no : ⊥ = cc in no)
 loads_needed (Some (Some (Faulty f))) ns e = absurd (let no : ⊥ = cc in no)
 loads_needed (Some (Some (Sound ss ls))) ns e = let same : map (λ (l : Load). l.file) ls ≡ ns = cc in sym same
 
--- a file needs what it loads
+-- a file needs the files that it loads
 pub needs_loaded : (plan : Plan) (n : ℕ) (ns : List ℕ) → sound.NeedsAll (needs plan) n ns → ns ≡ loaded plan n
 needs_loaded plan n ns has = loads_needed (slice_get plan.reads n) ns (sym (need_at plan n) ∙ has)
 
@@ -59,7 +59,7 @@ sound_needs (Some (Some (Sound ss ls))) r at none = (map (λ (l : Load). l.file)
 pub unbarred : (plan : Plan) (n : ℕ) (r : Reading) → read_of plan n ≡ Some r → ((f : StaticFault) → r ≡ Faulty f → ⊥) → (ns : List ℕ) × sound.NeedsAll (needs plan) n ns
 unbarred plan n r at none = let found = sound_needs (slice_get plan.reads n) r at none in (found.0, need_at plan n ∙ found.1)
 
--- ---- what is not sound
+-- ---- files that are not sound
 
 same_needs : (plan : Plan) (n : ℕ) (ns ms : List ℕ) → sound.NeedsAll (needs plan) n ns → sound.NeedsAll (needs plan) n ms → ns ≡ ms
 same_needs plan n ns ms a b =
@@ -82,7 +82,7 @@ fault_with plan n f at (sound.sound {ns = ns} has each) = faulty_barred plan n f
 pub fault_unsound : (plan : Plan) (n : ℕ) (f : StaticFault) → read_of plan n ≡ Some (Faulty f) → IsSound plan n → ⊥
 fault_unsound plan n f at is = fault_with plan n f at is
 
--- the file by which another fails is not sound, and it is reached as that one is
+-- the file by which another fails is not sound, and it is reached if the other one is
 fails_unsound : (plan : Plan) (n k : ℕ) → FailsBy plan n k → IsSound plan k → ⊥
 fails_unsound plan n k (i, (ms, its, first), at) is =
     let here : slice_get (loaded plan n) i ≡ Some first.file = subst (λ l. slice_get l i ≡ Some first.file) (needs_loaded plan n ms its) first.there in
@@ -135,7 +135,7 @@ module _ (files : List File) (plan : Plan) (nexts : Nexts) (ps : List Prospect) 
   cause_is n (Cycle []) ends reached bad = absurd ends
   cause_is n (Cycle (m ∷ ms)) (way, leads, ring, differ) reached bad = (way, lead_of plan nexts right n m way leads, lead_of plan nexts right m m (m ∷ ms) ring, differ)
 
--- ---- what becomes ok in a run
+-- ---- files that become ok in a run
 
 tree_needs : (o : Option (Option Reading)) (ss : List Statement) → tree_in (option_flatten o) ≡ Some ss → option_map needs_in o ≡ Some (Some (map (λ (l : Load). l.file) (loads_in (option_flatten o))))
 tree_needs None ss e = absurd (let no : ⊥ = cc in no)

@@ -1,4 +1,4 @@
--- What is told of the files of a row, by what was read.
+-- The verdicts on the files of a row, by their readings.
 use Rattle.std.proofs.Common.{arith, ◌≡◌, ◌<◌, ◌≤◌, ◌+◌, ◌⊎◌, inl, inr, ℕ, List, [], ◌∷◌, ◌++◌, length, length-append, map, Option, Some, None, refl, ap, sym, subst, ◌∙◌}
 use denote.Ref.{Bor}
 use Rattle.std.specs.Prelude.{All, IfSome, MatchOption, slice_get}
@@ -75,7 +75,7 @@ push_last xs x k long =
     let size = length-append xs (x ∷ []) in
     slice_get-get_or (xs ++ x ∷ []) k x (omega (arith, size, long)) ∙ ap Some (get_or_push xs x x k long)
 
--- what is known of the next files of the first so many
+-- the facts on the next files of the first `count` files
 pub record AreNextsBelow (row : Row) (ps : List Prospect) (count : ℕ) (nexts : Nexts) : Type 0 where
   pub size : length nexts ≡ count
   pub within : (n m : ℕ) → Goes nexts n m → m < length row
@@ -125,7 +125,7 @@ nexts_all row ps count nexts end were = record {
 
 -- ---- verdicts
 
--- a program against which nothing is known is sound
+-- a program with nothing known against it is sound
 pub verdict_unrun : (row : Row) (plan : Plan) (n : ℕ) (r : Read) (p : Prospect) → readings row ≡ plan.reads → read_at row n ≡ Some r → ((f : Fault) → r ≡ read.Fault f → ⊥) → sound.IsProspect (needs plan) n p
     → ((i : ℕ) → p ≡ prospect.Lacks i → ⊥) → IsSound plan n
 verdict_unrun row plan n (read.Fault f) p is at sane has none = absurd (sane f refl)
@@ -152,14 +152,14 @@ files_of ms = map (λ (m : check.Module). m.file) ms
 pub check_on : (plan : Plan) (n : ℕ) (ms : List check.Module) → (IsReached plan n → ⊥) → IsCheckBelow plan n ms → IsCheckBelow plan (n + 1) ms
 check_on plan n ms never is = record { listed = listed_on plan n (files_of ms) never is.listed; each = is.each }
 
--- a reached file is told of
+-- a reached file has its verdict in the check
 pub check_more : (plan : Plan) (n : ℕ) (ms : List check.Module) (m : check.Module) → m.file ≡ n → IsReached plan n → IsVerdict plan m.file m.verdict → IsCheckBelow plan n ms → IsCheckBelow plan (n + 1) (ms ++ m ∷ [])
 check_more plan n ms m at reached verdict is = record {
   listed = subst (AreListed plan (n + 1)) (sym (map_push (λ (x : check.Module). x.file) ms m)) (listed_more plan n (files_of ms) m.file at reached is.listed);
   each = All-push (λ (x : check.Module). IsVerdict plan x.file x.verdict) ms m is.each verdict;
 }
 
--- what was read is reached, and nothing else
+-- the read files are reached, and no others
 pub is_reached : (files : List File) (row : Row) (plan : Plan) (n : ℕ) (r : Read) → IsPlanOf files plan → readings row ≡ plan.reads → read_at row n ≡ Some r → IsReached plan n
 is_reached files row plan n r planned is at = (planned.reached n).1 (reading_of r, read_is plan row n is ∙ ap (option_map reading_of) at)
 
@@ -190,9 +190,9 @@ check_all files row plan n ms planned is end below = record {
         let long = sym (ap length is) ∙ length-map row (option_map reading_of) in
         omega (arith, less, long, end)
 
--- ---- what the files of a row need
+-- ---- the needs of the files of a row
 
--- what is needed stands in the row
+-- each needed file is in the row
 pub rows_within : (row : Row) (rows : sound.Needs) → rows ≡ map needs_in (readings row) → LeadWithin row → sound.AreWithin rows
 rows_within row rows e lead n ns has =
     let plan : Plan = record { roots = []; prelude = None; steps = 0; reads = readings row } in
@@ -205,6 +205,6 @@ rows_within row rows e lead n ns has =
 pub rows_size : (row : Row) (rows : sound.Needs) → rows ≡ map needs_in (readings row) → length rows ≡ length row
 rows_size row rows e = ap length e ∙ (length-map (readings row) needs_in ∙ length-map row (option_map reading_of))
 
--- what can be said of each file
+-- the prospects of the files
 pub are_prospects : (row : Row) (rows : sound.Needs) (ps : List Prospect) → rows ≡ map needs_in (readings row) → ((n : ℕ) (p : Prospect) → slice_get ps n ≡ Some p → sound.IsProspect rows n p) → AreProspects row ps
 are_prospects row rows ps e each plan read n p at = subst (λ rs. sound.IsProspect rs n p) (e ∙ ap (map needs_in) read) (each n p at)

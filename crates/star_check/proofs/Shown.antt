@@ -16,7 +16,7 @@ use Rattle.star_check.specs.Text.{IsCheckAnswer, check_text, is_shown, is_unrun,
 use Rattle.star_check.specs.declared.verdict.Judged.{Judged}
 use Rattle.star_check.proofs.Judgements.{fault_unsound, lack_unsound}
 
--- ---- no float stands in it
+-- ---- it has no float
 
 texts_plain : (ts : List (List ℕ)) → items_have_float (items_of (map string ts)) ≡ false
 texts_plain [] = refl

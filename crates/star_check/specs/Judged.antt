@@ -1,4 +1,4 @@
--- What the code tells of files, as the definitions have it.
+-- The verdicts of the code, as the definitions have them.
 use Rattle.std.specs.Prelude.{◌≡◌, ◌<◌, ◌+◌, ℕ, Bool, List, Some, filter, map, length, slice_get}
 use Rattle.std.specs.List.{All}
 use Rattle.serde_json.specs.Data.{Data}
@@ -31,11 +31,11 @@ verdict_view Unrun = check.Unrun
 abbrev pub judged_view : Judged → check.Module
 judged_view j = record { file = j.file; verdict = verdict_view j.verdict }
 
--- so it is in each plan, of some files, that has what was read
+-- this holds in each plan of some files that has these readings
 abbrev pub InFilePlans : Row → (Plan → Type 0) → Type 0
 InFilePlans row P = (files : List File) (plan : Plan) → IsPlanOf files plan → readings row ≡ plan.reads → P plan
 
--- what can be said of each file of a row
+-- the prospects of the files of a row
 abbrev pub AreProspects : Row → List Prospect → Type 0
 AreProspects row ps = InReadPlans row (λ plan. (n : ℕ) (p : Prospect) → slice_get ps n ≡ Some p → IsProspect (needs plan) n p)
 
@@ -43,18 +43,18 @@ AreProspects row ps = InReadPlans row (λ plan. (n : ℕ) (p : Prospect) → sli
 abbrev pub FailsByLoad : Plan → ℕ → Load → Type 0
 FailsByLoad plan n l = (i : ℕ) × IsFirstLack plan n i × (slice_get (loads_of plan n) i ≡ Some l)
 
--- the next file of each file is the one by which it fails, and each that fails by a load has one
+-- a file fails by its next file, and each file that fails by a load has one
 pub record AreNexts (row : Row) (ps : List Prospect) (nexts : Nexts) : Type 0 where
   pub right : InReadPlans row (λ plan. AreProspects row ps → (n m : ℕ) → Goes nexts n m → FailsBy plan n m)
   pub all : InReadPlans row (λ plan. AreProspects row ps → (n i : ℕ) → slice_get ps n ≡ Some (Lacks i) → (m : ℕ) × Goes nexts n m)
 
--- so it is in each plan of which these are what can be said of its files, and their next files
+-- this holds in each plan with these readings, if these are the prospects of its files and their next files
 abbrev pub InToldPlans : Row → List Prospect → Nexts → (Plan → Type 0) → Type 0
 InToldPlans row ps nexts P =
     (files : List File) (plan : Plan) → IsPlanOf files plan → readings row ≡ plan.reads → AreProspects row ps
     → AreNexts row ps nexts → P plan
 
--- this is told of a file, by what was read of it, what can be said of it, and the next files
+-- this is the verdict on a file, by its reading, its prospect, and the next files
 abbrev pub IsVerdictBy : Row → Nexts → ℕ → Read → Prospect → Verdict → Type 0
 IsVerdictBy row nexts n r p v =
     (files : List File) (plan : Plan) (ps : List Prospect) → IsPlanOf files plan → readings row ≡ plan.reads
@@ -66,7 +66,7 @@ pub record IsCheckBelow (plan : Plan) (count : ℕ) (modules : List check.Module
   pub listed : AreListed plan count (map (λ m. m.file) modules)
   pub each : All (λ m. IsVerdict plan m.file m.verdict) modules
 
--- the file, and those of its cause, are below a number
+-- the file, and the files of its cause, are below a number
 abbrev pub IsVerdictBelow : ℕ → Verdict → Type 0
 IsVerdictBelow count (AtFault f) = Unit {0}
 IsVerdictBelow count (Fails cause line) = IsBelow count (cause_of cause)
@@ -75,7 +75,7 @@ IsVerdictBelow count Unrun = Unit {0}
 abbrev pub IsJudgedBelow : ℕ → Judged → Type 0
 IsJudgedBelow count j = (j.file < count) × IsVerdictBelow count j.verdict
 
--- the file with this number, of which this can be said, is told of too, if it is reached
+-- the file with this number and this prospect gets its verdict too, if it is reached
 abbrev pub TellsNext : Row → Nexts → ℕ → Prospect → List Judged → List Judged → Type 0
 TellsNext row nexts n p old new =
     (files : List File) (plan : Plan) (ps : List Prospect) → IsPlanOf files plan → readings row ≡ plan.reads
@@ -87,7 +87,7 @@ abbrev pub shown_of : List File → Bool → List ℕ → List Judged → List D
 shown_of files only_roots roots js =
     map (module_data files) (filter (is_shown only_roots roots) (map judged_view js))
 
--- this text and this answer are the check of these files for roots, by what was read
+-- this text and this answer are the check of these files for roots, by their readings
 abbrev pub ChecksRead : Bool → List File → List ℕ → Row → List ℕ → Bool → Type 0
 ChecksRead only_roots files roots row text ok =
     (plan : Plan) → IsPlanOf files plan → readings row ≡ plan.reads → plan.roots ≡ roots

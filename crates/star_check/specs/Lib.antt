@@ -1,4 +1,5 @@
--- Check says what is told of files before any of them runs; its text is in Text. Judged has words of the contracts.
+-- Check has the verdicts on files before any of them runs, and Text the text of a check. Judged has words of the
+-- contracts.
 pub mod Check
 pub mod Text
 pub mod Judged

@@ -10,13 +10,13 @@ use Rattle.star_plan.specs.Reached.{IsReached}
 use Rattle.star_plan.specs.Text.{load_data, static_data, texts_data}
 use Rattle.star_check.specs.Check.{AtFault, Fails, IsCheck, IsSound, Module, Unrun, Verdict}
 
--- a module that was not run, and against which nothing is known
+-- a module that was not run, with nothing known against it
 abbrev pub unrun_data : List ℕ → Data
 unrun_data label =
     object (member (codes "label") (string label) (member (codes "lines") (texts_data [])
     (member (codes "status") (string (codes "unrun")) no_members)))
 
--- the others are those of the report of a run
+-- the other modules are those of the report of a run
 abbrev pub verdict_data : List File → List ℕ → Verdict → Data
 verdict_data files label (AtFault f) = static_data label f
 verdict_data files label (Fails cause line) = load_data files label cause line

@@ -13,12 +13,12 @@ use star_label::files::Files as Labels;
 use star_reading::reading::Reads;
 use std::alloc::{AllocError, Global};
 
-/// What is told of files that were read.
+/// The check of files that were read.
 #[derive(Drop)]
 pub struct Checked {
-    /// What is told of each, in order.
+    /// The verdict on each, in order.
     pub judged: Vec<Judged>,
-    /// The same as text.
+    /// The check as text.
     pub text: Vec<u8>,
     /// Whether there is nothing against any.
     pub all_ok: bool,
@@ -37,8 +37,8 @@ fn are_unrun(judged: &[Judged]) -> bool
     true
 }
 
-/// Says what is told of the files that roots reach, by what was read of them, before any runs. Of those against which
-/// there is nothing the text may show the roots alone.
+/// Checks the files that roots reach, by their readings, before any runs. Of the files with nothing against them the
+/// text may show the roots alone.
 pub fn check(
     alloc: Global,
     files: &Labels,

@@ -1,4 +1,4 @@
-//! `judge`: what is told of each file that was read.
+//! `judge`: the verdict on each file that was read.
 
 ghost use Rattle.std.specs.Prelude.{◌≡◌, ◌<◌, ℕ, All, IfOk, IfSome, MatchOption, None, OnOk, Some, length, map, slice_get, vec_len};
 ghost use Rattle.std.specs.Option.{option_map};
@@ -16,7 +16,7 @@ use star_scope::loads::Load;
 use star_sound::{Prospect, prospects};
 use std::alloc::{AllocError, Global};
 
-/// The files that a file needs: none where it has a static fault or was not read.
+/// The files that a file needs; `None` if it has a static fault or was not read.
 fn need_of(alloc: Global, entry: &Option<Read>) -> Result<Option<Vec<usize>>, AllocError>
     ensures { IfOk result (λ o. option_map (λ v. v.items) o ≡ needs_in (option_map reading_of entry.now)) }
 {
@@ -26,7 +26,7 @@ fn need_of(alloc: Global, entry: &Option<Read>) -> Result<Option<Vec<usize>>, Al
     }
 }
 
-/// What each file needs.
+/// The needs of each file.
 fn needs_of(alloc: Global, reads: &Reads) -> Result<Vec<Option<Vec<usize>>>, AllocError>
     ensures { IfOk result (λ v. rows_of v.items ≡ map needs_in (readings reads.now.all.items)) }
 {
@@ -37,7 +37,7 @@ fn needs_of(alloc: Global, reads: &Reads) -> Result<Vec<Option<Vec<usize>>>, All
     Ok(all)
 }
 
-/// What was read of a file: none where nothing was.
+/// The result of reading a file; `None` if it was not read.
 fn read_in<'s, 't>(reads: &'s Reads<'t>, n: usize) -> Option<&'s Read<'t>>
     ensures { MatchOption result (read_at reads.now.all.items n ≡ None)
         (λ r. read_at reads.now.all.items n ≡ Some r.now) }
@@ -48,7 +48,7 @@ fn read_in<'s, 't>(reads: &'s Reads<'t>, n: usize) -> Option<&'s Read<'t>>
     }
 }
 
-/// What can be said of each file.
+/// The prospect of each file.
 fn prospects_of(alloc: Global, reads: &Reads) -> Result<Vec<Prospect>, AllocError>
     requires { LeadWithin reads.now.all.items }
     ensures size { IfOk result (λ v. vec_len v ≡ length reads.now.all.items) }
@@ -59,7 +59,7 @@ fn prospects_of(alloc: Global, reads: &Reads) -> Result<Vec<Prospect>, AllocErro
     Ok(told)
 }
 
-/// What can be said of one of them.
+/// The prospect of one of them.
 fn prospect_at(prospects: &[Prospect], n: usize) -> Prospect
     requires { n < length prospects.now }
     ensures { slice_get prospects.now n ≡ Some result }
@@ -70,7 +70,7 @@ fn prospect_at(prospects: &[Prospect], n: usize) -> Prospect
     }
 }
 
-/// The load by which a file fails: none where it fails by none.
+/// The load by which a file fails; `None` if it fails by no load.
 fn load_by<'s, 't>(reads: &'s Reads<'t>, n: usize, prospect: Prospect) -> Option<&'s Load>
     ensures there { IfSome result (λ l. (i : ℕ) × (slice_get (loads_at reads.now.all.items n) i ≡ Some l.now)) }
     ensures load { IfSome result (λ l. InReadPlans reads.now.all.items (λ plan. IsProspect (needs plan) n prospect
@@ -84,7 +84,7 @@ fn load_by<'s, 't>(reads: &'s Reads<'t>, n: usize, prospect: Prospect) -> Option
     }
 }
 
-/// The file that a file loads and by which it fails: none where it fails by none.
+/// The file that a file loads and by which it fails; `None` if it fails by none.
 fn next_of(reads: &Reads, n: usize, prospect: Prospect) -> Option<usize>
     requires { LeadWithin reads.now.all.items }
     ensures within { IfSome result (λ m. m < length reads.now.all.items) }
@@ -99,7 +99,7 @@ fn next_of(reads: &Reads, n: usize, prospect: Prospect) -> Option<usize>
     }
 }
 
-/// For each file the one that it loads and by which it fails.
+/// For each file, the file that it loads and by which it fails.
 fn nexts_of(
     alloc: Global,
     reads: &Reads,
@@ -119,7 +119,7 @@ fn nexts_of(
     Ok(nexts)
 }
 
-/// What is told of a file.
+/// The verdict on a file.
 fn verdict_of(
     alloc: Global,
     reads: &Reads,
@@ -145,7 +145,7 @@ fn verdict_of(
     }
 }
 
-/// What is told of a file more, where it was read.
+/// Adds the verdict on one more file, if it was read.
 fn push_judged(
     alloc: Global,
     reads: &Reads,
@@ -171,7 +171,7 @@ fn push_judged(
     }
 }
 
-/// What is told of each file that was read, in order.
+/// The verdict on each file that was read, in order.
 fn judged_by(
     alloc: Global,
     reads: &Reads,
@@ -192,7 +192,7 @@ fn judged_by(
     Ok(all)
 }
 
-/// What is told of each file that was read, in the order of their numbers.
+/// The verdict on each file that was read, in the order of their numbers.
 pub fn judge(alloc: Global, reads: &Reads) -> Result<Vec<Judged>, AllocError>
     requires { LeadWithin reads.now.all.items }
     ensures within { IfOk result (λ v. All (IsJudgedBelow (length reads.now.all.items)) v.items) }

@@ -1,4 +1,4 @@
-//! What a check says of a run.
+//! A law that relates the check to a run.
 
 ghost use Rattle.star_check.specs.Check.{GoodIsSound};
 

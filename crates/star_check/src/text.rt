@@ -13,7 +13,7 @@ use star_label::files::Files as Labels;
 use star_reading::roots::roots_marked;
 use std::alloc::{AllocError, Global};
 
-/// A file against which there is nothing.
+/// A file with nothing against it.
 fn unrun_value(alloc: Global, label: &str) -> Result<Value, AllocError>
     ensures { IfOk result (λ v. view v ≡ unrun_data label.now) }
 {
@@ -21,7 +21,7 @@ fn unrun_value(alloc: Global, label: &str) -> Result<Value, AllocError>
     json!(in alloc; {"label": label, "lines": lines, "status": "unrun"})
 }
 
-/// What is told of a file.
+/// The verdict on a file, as JSON.
 fn module_value(alloc: Global, files: &Labels, it: &Judged) -> Result<Value, AllocError>
     requires { IsJudgedBelow (length files.now) it.now }
     ensures { IfOk result (λ v. view v ≡ module_data files.now (judged_view it.now)) }
@@ -55,7 +55,7 @@ impl Judged {
     }
 }
 
-/// The files that are shown, each with what is told of it.
+/// The files that are shown, each with its verdict.
 fn modules_of(
     alloc: Global,
     files: &Labels,

@@ -1,20 +1,20 @@
-//! What is told of a file.
+//! The verdict on a file.
 
 use star_cause::Cause;
 use star_reading::code::StaticFault;
 
-/// What is told of a file that was not run.
+/// The verdict on a file that was not run.
 #[derive(Debug, Drop)]
 pub enum Verdict {
     /// It has this static fault.
     AtFault(StaticFault),
-    /// The first of its loads that cannot do stands on this line, and fails by this.
+    /// The first of its loads that is not sound is on this line, and has this cause.
     Fails { cause: Cause, line: usize },
     /// There is nothing against it.
     Unrun,
 }
 
-/// A file, and what is told of it.
+/// A file and its verdict.
 #[derive(Debug, Drop)]
 pub struct Judged {
     pub file: usize,

@@ -1,27 +1,27 @@
-//! What the crates of tests assert with: facts, texts and bytes.
+//! Assertions for the crates of tests: facts, texts and bytes.
 //!
-//! A function here says what is amiss, and its macro ends the test by `expect`, where the assertion stands. So an
-//! assertion is two calls: the body of an `assert!` would be proved again wherever one stands, with all that is live
-//! there. Nothing here has the bound `Abort`, which is for tests alone.
+//! A function here says what is amiss, and its macro ends the test by `expect`, at the place of the assertion. So an
+//! assertion is two calls: the body of an `assert!` would be proved again at each use, with all that is live there.
+//! Nothing here has the bound `Abort`, which is for tests alone.
 #![tactic(auto)]
 
 ghost use Rattle.std.specs.Prelude.{◌≡◌, ◌↔◌, IsOk, IsSome, IsTrue};
 
-/// Something if a fact holds.
+/// `Some` if a fact holds.
 pub fn held(fact: bool) -> Option<()>
     ensures { IsSome result ↔ IsTrue fact }
 {
     if fact { Some(()) } else { None }
 }
 
-/// Whether a text is the wanted one. The error: the text that was found.
+/// Whether a text is the expected one. The error: the text that was found.
 pub fn same<'a>(found: &'a str, want: &str) -> Result<(), &'a str>
     ensures { IsOk result ↔ (found.now ≡ want.now) }
 {
     if found == want { Ok(()) } else { Err(found) }
 }
 
-/// Whether bytes are those of the wanted text. The error: the bytes that were found.
+/// Whether bytes are the bytes of the expected text. The error: the bytes that were found.
 pub fn same_bytes<'a>(found: &'a [u8], want: &str) -> Result<(), &'a [u8]>
     ensures { IsOk result ↔ (found.now ≡ want.now) }
 {

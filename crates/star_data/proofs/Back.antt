@@ -22,7 +22,7 @@ use Rattle.serde_json.proofs.Texts.{print-outline}
 use Rattle.star_data.specs.Reading.{read_within}
 use Rattle.star_data.proofs.Rising.{IsBelow, Rises}
 
--- data that its outline gives back, which nests at most so deep, and whose numbers are numbers of JSON
+-- data that its outline gives back, which nests at most n deep, and whose numbers are numbers of JSON
 pub record ComesBack (n : ℕ) (d : Data) : Type 0 where
   pub back : of_json (outline d) ≡ Some d
   pub numbers : HasNumbers (outline d)
@@ -130,7 +130,7 @@ put_back n k d (member l e ms) one h = turn (slice_cmp nat_cmp k l) (put_back n 
     turn Equal rest = (one, h.1)
     turn Greater rest = (h.0, rest)
 
--- ---- what has no parts
+-- ---- data without parts
 
 pub null_back : (n : ℕ) → ComesBack n null
 null_back n = record { back = refl; numbers = tt; deep = omega arith }

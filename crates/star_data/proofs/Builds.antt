@@ -1,4 +1,4 @@
--- How the data of a value comes from that of its parts, and that a value on its own path has none.
+-- The data of a value comes from the data of its parts, and a value on its own path has none.
 use Rattle.std.proofs.Common.{arith, ◌≡◌, ◌<◌, ◌-◌, ◌+◌, drop, ℕ, zero, suc, Bool, true, false, nat_eq, ◌&&◌, ◌||◌, List, [], ◌∷◌, ◌++◌, length, get_or, map, Option, Some, None, refl, ap, sym, subst, ◌∙◌, ◌⊎◌, inl, inr, eqb-true}
 use Rattle.std.specs.Prelude.{slice_get}
 use Rattle.std.proofs.lemmas.List.{drop_more}
@@ -82,7 +82,7 @@ entry_no_key look f (x ∷ es) (suc i) e at n =
     then_none (key_in (cell_of look x.0)) (λ k. option_and_then (λ d. option_map (put k d) (entries_data look f es)) (f x.1))
     (λ k. then_none (f x.1) (λ d. option_map (put k d) (entries_data look f es)) (λ d. ap (option_map (put k d)) rest))
 
--- where the entries from some place on are none, all are
+-- if the entries from some place on are not data, all together are not
 pub rest_none : (look : Value → Option Cell) (f : Value → Option Data) (es : List (Value × Value)) (i : ℕ) → entries_data look f (drop i es) ≡ None → entries_data look f es ≡ None
 rest_none look f es zero e = e
 rest_none look f [] (suc i) e = e
@@ -95,7 +95,7 @@ rest_none look f (x ∷ es) (suc i) e =
 pub one_back : (es : List (Value × Value)) (i : ℕ) → 0 < i → i - 1 < length es → drop (i - 1) es ≡ get_or es (i - 1) (value.NoneValue, value.NoneValue) ∷ drop i es
 one_back es i some less = drop_more es (i - 1) (value.NoneValue, value.NoneValue) less ∙ ap (λ k. get_or es (i - 1) (value.NoneValue, value.NoneValue) ∷ drop k es) (let e : i - 1 + 1 ≡ i = omega (arith, some) in e)
 
--- ---- what stands in itself
+-- ---- values that contain themselves
 
 both : (a b : Bool) → (a && b) ≡ true → (a ≡ true) × (b ≡ true)
 both true b e = (refl, e)

@@ -50,7 +50,7 @@ own_bytes : (s : List ℕ) → pointwise nat_eq s s ≡ true
 own_bytes [] = refl
 own_bytes (x ∷ s) = ap (λ b. b && pointwise nat_eq s s) (own_number x) ∙ own_bytes s
 
--- ---- what passes
+-- ---- comparisons that pass
 
 abbrev Passes : Spend Bool → Type 0
 Passes f = (n : ℕ) × (left : ℕ) × (f n ≡ Enough true left)
@@ -137,7 +137,7 @@ at_most look a (x ∷ xs) ms f =
     let one = count_put it.key it.value it.others in
     subst (λ z. member_count z ≤ suc (length xs)) it.all (omega (arith, less, one))
 
--- no later entry has the key: it is no member of theirs
+-- no later entry has the key: it is not among the keys of their members
 absent : (look : Value → Option Cell) (a : Value → Option Data) (xs : List (Value × Value)) (ms : Members) (t : List ℕ) → entries_data look a xs ≡ Some ms → ((j : ℕ) (y : Value × Value) → slice_get xs j ≡ Some y → text_in (cell_of look y.0) ≡ Some t → ⊥) → get_member t ms ≡ None
 absent look a [] ms t f never = let e : no_members ≡ ms = cc in subst (λ z. get_member t z ≡ None) e refl
 absent look a (x ∷ xs) ms t f never =
@@ -145,7 +145,7 @@ absent look a (x ∷ xs) ms t f never =
     let other : t ≡ it.key → ⊥ = λ e. never zero x refl (it.text ∙ ap Some (sym e)) in
     ap (get_member t) (sym it.all) ∙ (get_member-put_other t it.key it.value it.others other ∙ absent look a xs it.others t it.rest (λ j y at. never (suc j) y at))
 
--- each key stands once among the entries
+-- each key occurs once among the entries
 abbrev Once : (Value → Option Cell) → List (Value × Value) → Type 0
 Once look es = (i j : ℕ) (x y : Value × Value) (t : List ℕ) → slice_get es i ≡ Some x → slice_get es j ≡ Some y → text_in (cell_of look x.0) ≡ Some t → text_in (cell_of look y.0) ≡ Some t → i ≡ j
 
@@ -159,7 +159,7 @@ counted look a (x ∷ xs) ms once f =
     let none = absent look a xs it.others it.key it.rest (λ j y at is. (let both : zero ≡ suc j = once zero (suc j) x y it.key refl at it.text is in let no : ⊥ = omega (arith, both) in no)) in
     ap member_count (sym it.all) ∙ (count_new it.key it.value it.others none ∙ ap suc (counted look a xs it.others (once_rest look x xs once) it.rest))
 
--- each member is that of an entry
+-- each member comes from an entry
 members_in : (look : Value → Option Cell) (a : Value → Option Data) (xs : List (Value × Value)) (ms ns : Members) → entries_data look a xs ≡ Some ms
     → ((j : ℕ) (x : Value × Value) (t : List ℕ) (d : Data) → slice_get xs j ≡ Some x → text_in (cell_of look x.0) ≡ Some t → a x.1 ≡ Some d → get_member t ns ≡ Some d) → (t : List ℕ) (d : Data) → get_member t ms ≡ Some d → get_member t ns ≡ Some d
 members_in look a [] ms ns f h t d is = absurd (let e : no_members ≡ ms = cc in let no : None ≡ Some d = ap (get_member t) e ∙ is in let none : ⊥ = cc in none)
@@ -236,7 +236,7 @@ by_key look b ys ns f key v t is h texts =
 
 -- ---- cells and values
 
--- what passes for two values makes their data the same
+-- a comparison of two values that passes makes their data the same
 abbrev Below : (Value → Value → Spend Bool) → (Value → Option Data) → (Value → Option Data) → Type 0
 Below f a b = (x y : Value) (d e : Data) → Passes (f x y) → a x ≡ Some d → b y ≡ Some e → d ≡ e
 

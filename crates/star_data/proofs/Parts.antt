@@ -1,4 +1,4 @@
--- The parts of what is data are data.
+-- The parts of a value that is data are data.
 use Rattle.std.proofs.Common.{◌≡◌, ℕ, zero, suc, true, false, List, [], ◌∷◌, Option, Some, None, refl, ap, sym, subst, ◌∙◌}
 use Rattle.std.specs.Prelude.{slice_get}
 use Rattle.std.specs.Option.{option_and_then, option_map}
@@ -38,7 +38,7 @@ entry-data look f (y ∷ es) ms e (suc i) x at =
     let rest = mapped (put k.0 d.0) (entries_data look f es) ms d.2 in
     entry-data look f es rest.0 rest.1 i x at
 
--- what has a cell is data by its cell
+-- a value that has a cell is data by its cell
 by_cell : (look : Value → Option Cell) (f : Value → Option Data) (v : Value) (d : Data) (c : Cell) → value_data look f v ≡ Some d → cell_of look v ≡ Some c → cell_data look f (Some c) ≡ Some d
 by_cell look f value.NoneValue d c e h = absurd (let no : ⊥ = cc in no)
 by_cell look f (value.Bool b) d c e h = absurd (let no : ⊥ = cc in no)

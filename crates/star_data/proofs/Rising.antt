@@ -103,7 +103,7 @@ not_below : (k : List ℕ) (ms : Members) → IsBelow k ms → get_member k ms �
 not_below k no_members h = refl
 not_below k (member l d ms) h = later_member k l d ms (differ k l h.0) ∙ not_below k ms h.1
 
--- each member stands among others too
+-- each member is among others too
 abbrev pub StandsToo : Members → Members → Type 0
 StandsToo ms ns = (t : List ℕ) (d : Data) → get_member t ms ≡ Some d → get_member t ns ≡ Some d
 
@@ -141,7 +141,7 @@ fewer (member k d ms) (member l e ns) p q all = turn (slice_cmp nat_cmp k l) ref
         let less = one (past_first l e (member k d ms) ns (up, below_all l k ms up p.0) all) in
         omega (arith, less)
 
--- rising members that stand among no more others are those
+-- rising members that are all among others are the same as the others, if these are no more
 pub same_members : (ms ns : Members) → Rises ms → Rises ns → StandsToo ms ns → member_count ns ≤ member_count ms → ms ≡ ns
 same_members no_members no_members p q all no_more = refl
 same_members no_members (member l e ns) p q all no_more = absurd (let no : ⊥ = omega (arith, no_more) in no)

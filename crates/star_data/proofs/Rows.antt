@@ -67,7 +67,7 @@ module _ (k : Bor (List ℕ)) (v : Value) where
             let rest = mapped (λ row. x ∷ row) (put_new es k v) new (sym (turned x es Greater is) ∙ e) in
             ap (row_data f) (sym rest.2) ∙ (ap (λ q. option_and_then (λ c. option_map (member x.0.now c) q) (f x.1)) (more rest.0 rest.1) ∙ at_greater f k v x (f v) (f x.1) (row_data f es) is)
 
-  -- ---- where its values stand
+  -- ---- its values, inside of the values of a path
 
   module _ (look : Value → Option Cell) (path : List Value) where
     abbrev Stand : Row → Type 0

@@ -1,4 +1,4 @@
--- What a writer got of rows of values.
+-- The tokens that a writer got for rows of values.
 use Rattle.std.proofs.Common.{◌≡◌, ℕ, zero, suc, ℤ, pos, negsuc, Bool, true, false, List, [], ◌∷◌, ◌++◌, length, map, take, Option, Some, None, refl, ap, sym, subst, ◌∙◌, append_assoc, append-nil, if◌then◌else◌}
 use denote.Ref.{Bor}
 use Rattle.std.specs.Prelude.{slice_get}
@@ -40,7 +40,7 @@ open_end : (ds : List Data) → items_tokens (items_outline (items_of ds)) ≡ o
 open_end [] = refl
 open_end (d ∷ ds) = ap (λ ts. json_tokens (outline d) ++ ts) (open_end ds) ∙ sym (append_assoc (json_tokens (outline d)) (open_tokens ds) (end_array ∷ []))
 
--- the items so far are data, and their tokens stand after a bracket
+-- the items so far are data, and their tokens come after a bracket
 pub record SentItems (f : Value → Option Data) (xs : List Value) (old new : List Token) : Type 0 where
   pub ds : List Data
   pub are : items_data f xs ≡ Some (items_of ds)
@@ -67,8 +67,8 @@ items_end f xs old before new s e = subst (λ o. Sends (option_map array o) true
 abbrev pub Row : Type 0
 Row = List (Bor (List ℕ) × Value)
 
--- what is left of a row: whatever ends the object well from here ends it well from the start, and where what is left is no
--- data, nor is the row
+-- the rest of a row: tokens that end the object well from here end it well from the start, and if the rest is not data,
+-- nor is the row
 pub record LeftMembers (f : Value → Option Data) (es left : Row) (old now : List Token) : Type 0 where
   pub some : (ms : Members) → row_data f left ≡ Some ms → (all : Members) × (row_data f es ≡ Some all)
       × (old ++ begin_object ∷ members_tokens (members_outline all) ≡ now ++ members_tokens (members_outline ms))
@@ -104,7 +104,7 @@ members_more f es e left rest d old before named new was at some name value = re
   none = λ h. was.none (ap (row_data f) at ∙ none_row f e left h);
 }
 
--- a value that is no data
+-- a value that is not data
 pub members_none : (f : Value → Option Data) (es : Row) (e : Bor (List ℕ) × Value) (left rest : Row) (old before : List Token) → LeftMembers f es rest old before → rest ≡ e ∷ left → f e.1 ≡ None → row_data f es ≡ None
 members_none f es e left rest old before was at none = was.none (ap (row_data f) at ∙ ap (option_and_then (λ c. option_map (member e.0.now c) (row_data f left))) none)
 
@@ -118,7 +118,7 @@ members_end f es rest old before new was at e =
 abbrev pub key_cmp : Bor (List ℕ) → Bor (List ℕ) → Ordering
 key_cmp x y = slice_cmp nat_cmp x.now y.now
 
--- what is put at a name which stands in the row already must hide data
+-- a value that is put at a name already in the row must replace data
 abbrev pub HidesData : (Value → Option Data) → Option Value → Type 0
 HidesData f None = Unit {0}
 HidesData f (Some v) = (d : Data) × (f v ≡ Some d)
@@ -173,7 +173,7 @@ entry_more look f es left e k row new at text was hides is =
     ∙ (ap (option_and_then (λ n. option_and_then (λ d. option_map (put n d) (entries_data look f left)) (f e.1))) text
     ∙ (ap (λ ms. option_and_then (λ d. option_map (put k.now d) ms) (f e.1)) was ∙ (sym (row_insert f k e.1 row hides) ∙ ap (row_data f) (sym is))))
 
--- where it hides what is no data, none of the entries together are
+-- if the value at a name is not data, the row is not
 pub entry_hides_none : (f : Value → Option Data) (k : Bor (List ℕ)) (row : Row) (v : Value) → lookup (is_at (key_cmp k)) row ≡ Some v → f v ≡ None → row_data f row ≡ None
 entry_hides_none f k [] v at none = absurd (let no : ⊥ = cc in no)
 entry_hides_none f k (x ∷ row) v at none = turn (λ there. entry_hides_none f k row v there none) (is_eq (key_cmp k x.0)) at
@@ -184,7 +184,7 @@ entry_hides_none f k (x ∷ row) v at none = turn (λ there. entry_hides_none f 
         ap (option_and_then (λ c. option_map (member x.0.now c) (row_data f row))) (ap f same ∙ none)
     turn rest false there = none_row f x row (rest there)
 
--- the values of a row with one more stand where they stood
+-- if the values of a row, and one more, are inside of the values of a path, so are the values of the row with this one
 pub stand_insert : (look : Value → Option Cell) (path : List Value) (row : Row) (k : Bor (List ℕ)) (v : Value) → AllStandInEach look path (map (λ (e : Bor (List ℕ) × Value). e.1) row) → StandsInEach look path v
     → AllStandInEach look path (map (λ (e : Bor (List ℕ) × Value). e.1) (insert_entry key_cmp row k v))
 stand_insert look path [] k v all one = record { all = λ i x at. only i x at }
@@ -210,7 +210,7 @@ stand_insert look path (y ∷ row) k v all one = turn (λ later. stand_insert lo
     turn rest Equal = ahead v (map (λ (e : Bor (List ℕ) × Value). e.1) row) one later
     turn rest Greater = ahead y.1 (map (λ (e : Bor (List ℕ) × Value). e.1) (insert_entry key_cmp row k v)) (all.all 0 y.1 refl) (rest later)
 
--- a value at a place of a row whose values stand is one of them
+-- if the values of a row are inside of the values of a path, so is the one at a name
 pub found_stands : (look : Value → Option Cell) (path : List Value) (k : Bor (List ℕ)) (row : Row) (v : Value) → lookup (is_at (key_cmp k)) row ≡ Some v → AllStandInEach look path (map (λ (e : Bor (List ℕ) × Value). e.1) row) → StandsInEach look path v
 found_stands look path k [] v at all = absurd (let no : ⊥ = cc in no)
 found_stands look path k (x ∷ row) v at all = turn (λ there. found_stands look path k row v there (record { all = λ i y found. all.all (suc i) y found })) (is_eq (key_cmp k x.0)) at
@@ -219,7 +219,7 @@ found_stands look path k (x ∷ row) v at all = turn (λ there. found_stands loo
     turn rest true here = all.all 0 v here
     turn rest false there = rest there
 
--- ---- what is sent
+-- ---- the tokens that are sent
 
 pub sends_none : (o : Option Data) (a b : List Token) → o ≡ None → Sends o false a b
 sends_none o a b e = subst (λ p. Sends p false a b) (sym e) refl
@@ -261,7 +261,7 @@ text_is o b old text sent h some_data e =
 pub no_text : (o : Option Data) (b : Bool) (old text : List ℕ) (sent : List Token) → Sends o b [] sent → b ≡ false → text ≡ old → IsJson o old false text
 no_text o b old text sent h none e = subst (λ p. IsJson p old false text) (sym (none_sent o b [] sent h none)) (refl, e)
 
--- what stood before
+-- the text before
 pub front : (old more : List ℕ) (n : ℕ) → n ≡ length old → take n (old ++ more) ≡ old
 front old more n e = ap (λ k. take k (old ++ more)) e ∙ go old
   where

@@ -36,7 +36,7 @@ use Rattle.star_data.proofs.Strings.{key_is, string_is}
 
 -- ---- strings
 
--- what stands for the characters below n is short enough
+-- the JSON of each character below n is short enough
 abbrev short_below : ℕ → Bool
 short_below zero = true
 short_below (suc n) = nat_le (2 * length (escape (n ∷ []))) (3 * length (shown_char n)) && short_below n
@@ -52,7 +52,7 @@ all_short : short_below 128 ≡ true
 unfolding escape_byte shown_char encode
 all_short = refl
 
--- all that is not ASCII stands for itself in both
+-- a character that is not ASCII is itself in both
 itself : (c : ℕ) → 128 ≤ c → shown_char c ≡ encode c
 unfolding shown_char
 itself c h = rw (le-ltb c 32 (omega (arith, h)), ne_eqb c 34 (λ e. omega (arith, h, e)), ne_eqb c 92 (λ e. omega (arith, h, e)), ne_eqb c 10 (λ e. omega (arith, h, e)), ne_eqb c 13 (λ e. omega (arith, h, e)), ne_eqb c 9 (λ e. omega (arith, h, e)), ne_eqb c 127 (λ e. omega (arith, h, e))) refl
@@ -99,7 +99,7 @@ string_long t u =
     let one : length (codes "\"") ≡ 1 = refl in
     omega (arith, inside, one, length-append (escape t) (34 ∷ []), length-append (codes "\"") (shown t ++ codes "\""), length-append (shown t) (codes "\""))
 
--- ---- what is said
+-- ---- texts that are written
 
 said : (t out new : List ℕ) (n left : ℕ) → say t out n ≡ Enough new left → length new ≡ length out + length t
 said t out new n left e = let same : out ++ t ≡ new = cc in ap length (sym same) ∙ length-append out t
@@ -125,7 +125,7 @@ unvisited f n left new e = split (nat_lt n 1) e
     split true h = absurd (let no : ⊥ = cc in no)
     split false h = h
 
--- the JSON of data is no longer than what a text has more than another, by half
+-- the JSON of data is at most one and a half times as long as the text that was added to another
 abbrev Fits : Data → List ℕ → List ℕ → Type 0
 Fits d out new = 2 * length (compact_text d) + 3 * length out ≤ 3 * length new
 
@@ -137,7 +137,7 @@ SaysEnough a d = (out new : List ℕ) (n left : ℕ) → a out n ≡ Enough new 
 comma_later : (i : ℕ) → length (separator (i + 1)) ≡ 2
 comma_later i = ap (λ b. length (let s : List ℕ = if b then [] else codes ", " in s)) (ne_eqb (i + 1) 0 (λ e. omega (arith, e)))
 
--- some row is what another has from a place on
+-- a row is the rest of another from a place on
 abbrev IsRest : {A : Type 0} → List A → ℕ → List A → Type 0
 IsRest whole i xs = (j : ℕ) → slice_get whole (i + j) ≡ slice_get xs j
 
@@ -220,7 +220,7 @@ weight_put k d (member l e ms) = turn (slice_cmp nat_cmp k l) (weight_put k d ms
     turn Equal rest = omega arith
     turn Greater rest = omega (arith, rest)
 
--- what is said of a key is long enough
+-- the text that is written for a key is long enough
 abbrev KeyEnough : Say → List ℕ → Type 0
 KeyEnough a k = (out new : List ℕ) (n left : ℕ) → a out n ≡ Enough new left → 2 * length (json.quoted k) + 3 * length out ≤ 3 * length new
 
@@ -268,7 +268,7 @@ object_said look g f es ms parts keys is out new n left e =
 plain_said : (d : Data) (t : List ℕ) → 2 * length (compact_text d) ≤ 3 * length t → SaysEnough (say t) d
 plain_said d t h out new n left e = let more = said t out new n left e in omega (arith, h, more)
 
--- a string says itself, wherever it stands
+-- the text that is written for a string is long enough, at any place
 key_said : (look : Value → Option Cell) (levels : ℕ) (path : List Value) (key : Value) (k : List ℕ) → key_in (cell_of look key) ≡ Some k → KeyEnough (text look levels path key) k
 unfolding text
 key_said look zero path key k is out new n left e = absurd (let no : ⊥ = cc in no)
@@ -282,7 +282,7 @@ key_said look (suc levels) path (value.Ref h a) k is out new n left e =
     omega (arith, more, short)
 key_said look (suc levels) path _ k is out new n left e = absurd (let no : ⊥ = cc in no)
 
--- what stands in a value is said long enough, below every path on which it stands
+-- the text that is written for a value is long enough, below every path whose values contain it
 abbrev SaidWithin : (Value → Option Cell) → (List Value → Value → Say) → (Value → Option Data) → Type 0
 SaidWithin look g f = (path : List Value) (x : Value) (d : Data) → StandsInEach look path x → f x ≡ Some d → SaysEnough (g path x) d
 

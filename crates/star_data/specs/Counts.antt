@@ -1,4 +1,4 @@
--- How many members an object has.
+-- The number of members of an object.
 use Rattle.std.specs.Prelude.{ℕ, zero, suc}
 use Rattle.serde_json.specs.Data.{Members, member, no_members}
 

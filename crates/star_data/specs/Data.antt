@@ -53,7 +53,7 @@ cell_data look f _ = None
 abbrev pub int_data : ℤ → Option Data
 int_data n = if fits n then Some (number (of_integer n)) else None
 
--- None, bools, ints, and what has a cell that is data; a built-in function is none
+-- None, bools, ints, and values with a cell that is data. A built-in function is not data
 abbrev pub value_data : (Value → Option Cell) → (Value → Option Data) → Value → Option Data
 value_data look f value.NoneValue = Some null
 value_data look f (value.Bool b) = Some (boolean b)
@@ -66,7 +66,7 @@ unfoldable pub data_of : (Value → Option Cell) → ℕ → Value → Option Da
 data_of look zero v = None
 data_of look (suc depth) v = value_data look (data_of look depth) v
 
--- what a value leads to among published modules alone
+-- the cell that a value leads to among published modules alone
 abbrev pub on_shelf : Shelf → Value → Option Cell
 on_shelf shelf (value.Ref home at) = option_map (λ e. e.cell) (slice_get (published_cells (slice_get shelf home)) at)
 on_shelf shelf _ = None

@@ -19,22 +19,23 @@ DataStays =
     (look see : Value → Option Cell) → ((v : Value) (c : Cell) → look v ≡ Some c → see v ≡ Some c)
     → (n m : ℕ) (v : Value) (d : Data) → n ≤ m → data_of look n v ≡ Some d → data_of see m v ≡ Some d
 
--- a value has one data at all depths at which it has any
+-- a value has the same data at all depths where it has any
 abbrev pub OneData : Type 0
 OneData = (look : Value → Option Cell) (n m : ℕ) (v : Value) (d e : Data) → data_of look n v ≡ Some d
     → data_of look m v ≡ Some e → d ≡ e
 
--- the parts of what is data are data, at one depth less
+-- the parts of a value that is data are data, at one depth less
 abbrev pub PartsAreData : Type 0
 PartsAreData = (look : Value → Option Cell) (n : ℕ) (v x : Value) (d : Data) → data_of look (suc n) v ≡ Some d
     → IsPart look v x → (e : Data) × (data_of look n x ≡ Some e)
 
--- nothing that stands in what is data is opaque: a function, a range, or a dictionary with a key that is no string
+-- no value inside of a value that is data is opaque: a function, a range, or a dictionary with a key that is not a
+-- string
 abbrev pub DataIsPlain : Type 0
 DataIsPlain = (look : Value → Option Cell) (n k : ℕ) (v x : Value) (d : Data) → data_of look n v ≡ Some d
     → StandsIn look k v x → IsOpaque look x → ⊥
 
--- what stands in itself is no data
+-- a value that contains itself is not data
 abbrev pub NoCycleIsData : Type 0
 NoCycleIsData = (look : Value → Option Cell) (n k : ℕ) (v : Value) (d : Data) → StandsIn look (suc k) v v
     → data_of look n v ≡ Some d → ⊥
@@ -46,7 +47,7 @@ KeysStandOnce look =
     → slice_get es i ≡ Some x → slice_get es j ≡ Some y → text_in (cell_of look x.0) ≡ Some t
     → text_in (cell_of look y.0) ≡ Some t → i ≡ j
 
--- values of which equality answers true, and which are data, have the same JSON
+-- values that are data and that equality finds equal have the same JSON
 abbrev pub EqualAreSame : Type 0
 EqualAreSame =
     (look : Value → Option Cell) → KeysStandOnce look → (levels steps left n m : ℕ) (x y : Value) (d e : Data)
@@ -58,7 +59,7 @@ ReadsBack =
     (look : Value → Option Cell) (n m : ℕ) (v : Value) (d : Data) → data_of look n v ≡ Some d → n ≤ m
     → read_within m (compact_text d) ≡ Some d
 
--- and by serde_json's own reader, where it nests no deeper than that reads
+-- and by serde_json's own reader, if it nests no deeper than this reader reads
 abbrev pub SerdeReadsBack : Type 0
 SerdeReadsBack =
     (look : Value → Option Cell) (n : ℕ) (v : Value) (d : Data) → data_of look n v ≡ Some d

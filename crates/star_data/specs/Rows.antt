@@ -11,7 +11,7 @@ use Rattle.star_data.specs.Data.{entries_data}
 use Rattle.star_data.specs.Paths.{AllStandInEach}
 use Rattle.star_data.specs.Texts.{row_data}
 
--- a new name with its value at its place: none where the name stands there already
+-- a new name with its value at its place: none if the name is there already
 abbrev pub put_new : List (Bor (List ℕ) × Value) → Bor (List ℕ) → Value → Option (List (Bor (List ℕ) × Value))
 put_new [] k v = Some ((k, v) ∷ [])
 put_new (e ∷ es) k v =

@@ -1,4 +1,4 @@
--- What values lead to in the stores that a value is written from.
+-- The cells that values lead to in the stores that a value is written from.
 use Rattle.std.specs.Prelude.{Option}
 use Rattle.star_store.specs.Store.{look}
 use Rattle.star_store.specs.declared.values.Value.{Value}

@@ -8,12 +8,12 @@ use Rattle.serde_json.specs.Data.{Data, Members, member, no_members}
 use Rattle.serde_json.specs.Written.{compact_text, outline}
 use Rattle.star_store.specs.declared.values.Value.{Value}
 
--- the JSON of data stands after a text; where there is none the text is as it was
+-- the JSON of data comes after a text. If there is no data, the text is as it was
 abbrev pub IsJson : Option Data → List ℕ → Bool → List ℕ → Type 0
 IsJson None old is_data new = (is_data ≡ false) × (new ≡ old)
 IsJson (Some d) old is_data new = (is_data ≡ true) × (new ≡ old ++ compact_text d)
 
--- the tokens of data were written; where there is none, it is said
+-- the tokens of data were written, or the answer is that there is no data
 abbrev pub Sends : Option Data → Bool → List Token → List Token → Type 0
 Sends None is_data old new = is_data ≡ false
 Sends (Some d) is_data old new = (is_data ≡ true) × (new ≡ old ++ json_tokens (outline d))

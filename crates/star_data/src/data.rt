@@ -33,9 +33,9 @@ struct Stores<'a> {
     homes: &'a Homes<'a>,
 }
 
-/// The text with the JSON of a value that nests less deep than so many levels after it: None, bools, ints and strings,
-/// lists and tuples as arrays, dictionaries whose keys are all strings as objects, with their members in byte order.
-/// The text alone for what has anything else in it, or itself.
+/// The text, and after it the JSON of a value that nests less deep than `levels`: None, bools, ints and strings, lists
+/// and tuples as arrays, dictionaries whose keys are all strings as objects, with their members in byte order. The text
+/// alone for a value that contains anything else, or itself.
 ///
 /// It visits no more than the text of the value does.
 pub fn write_data<'a>(
@@ -61,9 +61,9 @@ pub fn write_data<'a>(
     Ok(Written { text, is_data })
 }
 
-/// The most entries of a dictionary whose members are put in order in a plain row, in which each is moved at most once for
-/// each other.
-const FEW: usize = 16;
+/// The largest number of entries of a dictionary whose members are put in order in a plain row. There each is moved at
+/// most once for each other.
+const MAP_ABOVE: usize = 16;
 
 /// Whether a value is data.
 #[cycle(write)]
@@ -169,7 +169,7 @@ fn write_cell<'a>(
     }
 }
 
-/// A list that stands in itself is no data.
+/// A list that contains itself is not data.
 #[cycle(write)]
 fn write_list<'a>(
     alloc: Global,
@@ -269,7 +269,7 @@ fn write_entries<'a>(
     ensures path { OnOk result (path.new.items ≡ path.old.items) }
     ensures before { out.new.before ≡ out.old.before }
 {
-    if entries.len() <= FEW {
+    if entries.len() <= MAP_ABOVE {
         let row = few_members(alloc, stores, entries)?;
         if let Some(row) = row {
             return write_row(alloc, stores, levels, path, &row, out);
@@ -278,7 +278,7 @@ fn write_entries<'a>(
     write_many(alloc, stores, levels, path, entries, out)
 }
 
-/// The same with a map, for any number of entries, and for a key that stands twice.
+/// The same with a map, for any number of entries, and for a key that occurs twice.
 #[cycle(write)]
 fn write_many<'a>(
     alloc: Global,
@@ -365,8 +365,8 @@ fn write_row<'a>(
     Ok(true)
 }
 
-/// The members of a small dictionary, in byte order of their names. None says nothing: it is the answer where a key is no
-/// string, or a string stands twice as a key.
+/// The members of a small dictionary, in byte order of their names. `None` says nothing: it is the answer if a key is
+/// not a string, or a string is a key twice.
 fn few_members<'a>(
     alloc: Global,
     stores: &Stores<'a>,

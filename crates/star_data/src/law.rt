@@ -7,27 +7,27 @@ pub fn data_stays()
     ensures { DataStays }
 {}
 
-/// A value has one data at all depths at which it has any.
+/// A value has the same data at all depths where it has any.
 pub fn one_data()
     ensures { OneData }
 {}
 
-/// The parts of what is data are data.
+/// The parts of a value that is data are data.
 pub fn parts_are_data()
     ensures { PartsAreData }
 {}
 
-/// Nothing that stands in what is data is a function, a range, or a dictionary with a key that is no string.
+/// No value inside of a value that is data is a function, a range, or a dictionary with a key that is not a string.
 pub fn data_is_plain()
     ensures { DataIsPlain }
 {}
 
-/// What stands in itself is no data.
+/// A value that contains itself is not data.
 pub fn no_cycle_is_data()
     ensures { NoCycleIsData }
 {}
 
-/// Values of which equality answers true, and which are data, have the same JSON.
+/// Values that are data and that equality finds equal have the same JSON.
 pub fn equal_are_same()
     ensures { EqualAreSame }
 {}
@@ -37,7 +37,7 @@ pub fn reads_back()
     ensures { ReadsBack }
 {}
 
-/// So it is by serde_json's own reader, where the value nests no deeper than that reads.
+/// serde_json's own reader reads it back too, if the value nests no deeper than this reader reads.
 pub fn serde_reads_back()
     ensures { SerdeReadsBack }
 {}

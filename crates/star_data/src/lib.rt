@@ -6,8 +6,8 @@
 //! itself.
 //!
 //! - `Written` is the result: the text, and whether the JSON of the value was written after it.
-//! - `law` has what follows from the definition (`specs/Data`): a value keeps its JSON if cells are added or the store
-//!   is frozen, no value that contains itself has JSON, and equal values have the same.
+//! - `law` has the consequences of the definition (`specs/Data`): a value keeps its JSON if cells are added or the
+//!   store is frozen, no value that contains itself has JSON, and equal values have the same.
 //!
 //! The promise is the contract of `write_data`: exactly the JSON of the definition.
 #![tactic(auto)]

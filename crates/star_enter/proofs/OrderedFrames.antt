@@ -166,7 +166,7 @@ all_bound w names l q s block parent f count c (p ∷ ps) h e =
     bound_next w names l q s block parent f count c (parameter p) (bound_names f (after c (parameter p)) ps) h.0 e
     ∙ all_bound w names l q s block parent f count (after c (parameter p)) ps h.1 e
 
--- ---- slots after those of the parameters
+-- ---- slots after the slots of the parameters
 
 not_at : (o : Option ℕ) (n i : ℕ) → IsBelow o n → n ≤ i → is_at o i ≡ false
 not_at None n i h k = refl

@@ -1,4 +1,5 @@
--- Calls of functions whose parameters have a layout: the values of `*name` and `**name` are made, and with them the shares are values.
+-- Calls of functions whose parameters have a layout: the values of `*name` and `**name` are made, and with them the
+-- shares are values.
 use Rattle.std.proofs.Common.{◌≡◌, ℕ, Bool, true, false, not, ◌&&◌, List, [], ◌∷◌, Option, Some, None, if◌then◌else◌, refl, ap, sym, ◌∙◌, eq-eqb}
 use Rattle.std.specs.Prelude.{nat_lt, slice_set}
 use Rattle.star_store.specs.declared.values.Value.{Value}
@@ -25,7 +26,7 @@ abbrev pub made_share : ℕ → Option ℕ → BoundArgument → Action (Option 
 made_share line None x = give None
 made_share line (Some i) x = build_argument line x >>= λ v. give (Some v)
 
--- the values of slots, with those of `*name` and `**name`
+-- the values of slots, with the values of `*name` and `**name`
 abbrev pub with_made : Layout → Option Value → Option Value → (ℕ → Option Value) → ℕ → Option Value
 with_made l rest names f i = if is_at l.rest i then rest else (if is_at l.names i then names else f i)
 
@@ -77,7 +78,7 @@ names_have l t d f i e h =
 abbrev build_each : ℕ → List (Name × BoundArgument) → Action (List (Name × Value))
 build_each line xs = each (λ x. build_argument line x.1 >>= λ v. give (x.0, v)) xs
 
--- a value more before those that an outcome has
+-- a value more before the values that an outcome has
 one_more : {A : Type 0} (o : Outcome A) (f : A → Action (List (Name × Value))) (x : Name × Value)
     → and_then (and_then o f) (λ ys. give (x ∷ ys)) ≡ and_then o (λ a s. and_then (f a s) (λ ys. give (x ∷ ys)))
 one_more (Done a s) f x = refl

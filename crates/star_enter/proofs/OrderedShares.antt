@@ -86,7 +86,7 @@ value_there : (l : Layout) (names : Names) (name : List ℕ) (i : ℕ) (ns : Lis
 value_there l names name i ns h k =
     ap (option_map (λ n. n.value)) (find_same (λ (n : KeywordArgument). same_name n.name name) (λ (n : KeywordArgument). is_at (keyword_slot l names n) i) ns (λ n. alike_own l names name n i h k))
 
--- no keyword value is that of a slot which has a positional one
+-- no keyword value is for a slot that has a positional one
 before_all : (l : Layout) (o : Option ℕ) (from i : ℕ) → IsTaken l from o → i < from → is_at o i ≡ false
 before_all l None from i h k = refl
 before_all l (Some j) from i h k = ne_eqb j i (λ e. omega (arith, e, h, k))
@@ -98,7 +98,7 @@ not_given l names name from i (n ∷ ns) h s o k =
 
 -- ---- which keyword values are some parameter's
 
--- whether a slot from a number on is that of a parameter which takes a keyword argument
+-- whether a slot from a number on belongs to a parameter that takes a keyword argument
 own_from : Layout → ℕ → Option ℕ → Bool
 own_from l i None = false
 own_from l i (Some j) = not (nat_lt j i) && takes_keyword l j

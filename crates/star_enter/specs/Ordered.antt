@@ -58,7 +58,7 @@ abbrev pub bound_at : Layout → Names → List Value → Arguments → ℕ → 
 bound_at l names ds g i =
     option_or (slice_get (placed l g) i) (option_or (named_at l names g.named i) (default_at l.ranks ds i))
 
--- all slots of a frame, but for those of `*name` and `**name`
+-- all slots of a frame, except the slots of `*name` and `**name`
 abbrev pub bound_row : Layout → Names → List Value → Arguments → List (Option Value)
 bound_row l names ds g = row (bound_at l names ds g) (length names)
 
@@ -99,7 +99,7 @@ entering_with line file number parent slots k = do
   _ ← begin file number
   k (record { file = file; frame = frame; line = line })
 
--- the same of bound arguments, after the tuple of `*name` and the dictionary of `**name` are made
+-- the same for bound arguments, after the tuple of `*name` and the dictionary of `**name` are made
 abbrev pub entering_bound : {A : Type 0} → ℕ → ℕ → ℕ → Value → Bound → (Site → Action A) → Action A
 entering_bound line file number parent b k = do
   slots ← with_share line b.rest (share.Rest b.more.now) b.slots

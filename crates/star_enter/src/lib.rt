@@ -4,15 +4,14 @@
 //! - `calls::fit_positionally` asks whether all arguments are positional and all parameters plain names; if so,
 //!   `enter_positional` puts the values straight into the frame.
 //! - `ordered::bound_of` binds the arguments of a definition with more than 16 parameters by its layout, which is made
-//!   once for each definition: the frame begins as the row of the defaults, and only the arguments are looked at.
+//!   once for each definition. The frame begins as the row of the defaults, and only the arguments are looked at.
 //! - `calls::enter_call` takes every other call, after `bound_to`.
 //!
 //! Begin at `calls.rt`. `Bound` (in `ordered`) is the only type: the slots of the frame, and the arguments that are
 //! left for `*name` and `**name`.
 //!
 //! The promise: all three ways give what `bound_to` and `build_arguments` give, the payments included. Frames are made
-//! here
-//! and not in `star_call`, since they need the programs of `star_world`.
+//! here and not in `star_call`, since they need the programs of `star_world`.
 #![tactic(auto)]
 
 pub mod calls;

@@ -1,6 +1,6 @@
 //! Calls of functions whose parameters have a layout. Their frames begin as the row of the defaults, and the time of a
-//! call is in proportion to its arguments, however many parameters there are.
-//! Arguments that do not fit go through `bound_to`, which says what is wrong with them.
+//! call is in proportion to its arguments, however many parameters there are. Arguments that do not fit go through
+//! `bound_to`, which says what is wrong with them.
 
 ghost use Rattle.std.specs.Prelude.{◌≡◌, ℕ, [], drop, take, true, IfOk, IfSome, None, OnOk};
 ghost use Rattle.std.specs.List.{list_all};
@@ -26,8 +26,8 @@ use star_world::variables::frame_with;
 use star_world::world::World;
 use std::alloc::{AllocError, Global};
 
-/// The arguments of a call, bound to parameters that have a layout: the slots of the frame, except for those of `*name`
-/// and `**name`; and the arguments that are left for these two, if there are such parameters.
+/// The arguments of a call, bound to parameters that have a layout: the slots of the frame, except for the slots of
+/// `*name` and `**name`. Also the arguments that are left for these two, if there are such parameters.
 #[derive(Drop)]
 pub struct Bound<'g> {
     slots: Slots,
@@ -148,7 +148,7 @@ fn all_extra_in_order<'g>(
     Ok(left)
 }
 
-/// The keyword arguments that name no parameter, if each keyword argument can be taken: without a `**name` there is
+/// The keyword arguments that name no parameter, if each keyword argument can be taken. Without a `**name` there are
 /// none.
 #[tactic(auto, using(crate::proofs::OrderedShares::all_own))]
 fn left_of<'g>(

@@ -1,4 +1,4 @@
--- Calls, from the callee that the code holds.
+-- Calls, from the callee that the code has.
 use Rattle.std.specs.Prelude.{ℕ, List, Result}
 use Rattle.star_store.specs.declared.values.Value.{Value}
 use Rattle.star_tree.specs.declared.tree.Name.{Name}
@@ -19,7 +19,7 @@ use Rattle.star_enter.specs.Positional.{positional_arguments}
 use Rattle.star_enter.specs.Ordered.{HasBound}
 use Rattle.star_world.specs.World.{World, semantics}
 
--- the call of a function over what its parameters get
+-- the call of a function over the shares that its parameters get
 abbrev pub calling : World → ℕ → Site → Called → List (Name × BoundArgument) → Action Value
 calling w levels p f shares = λ s.
     (semantics w levels).call p (function_of (content w.setting s f.value) f) (definition_of f.definition) shares s
@@ -32,7 +32,7 @@ calling_positional w levels p f vs = calling w levels p f (positional_arguments 
 abbrev pub calling_with : World → ℕ → Site → Callee → Arguments → Action Value
 calling_with w levels p c g = λ s. called w.setting levels (semantics w levels) p (shown (content w.setting s) c) g s
 
--- The answer is that of the call, whichever shares are bound so.
+-- The answer is the answer of the call, whichever shares are bound so.
 abbrev pub GivesBound : World → ℕ → Site → Called → Bound → State → Result Value EvalError → State → Type 0
 GivesBound w levels p f b old result new =
     (shares : List (Name × BoundArgument)) → HasBound w f.file f.number f.frame shares b

@@ -1,4 +1,4 @@
--- Words for the rest of the loops of the evaluator, and for what its structures mean.
+-- Words for the rest of the loops of the evaluator, and for the meaning of its structures.
 use Rattle.std.specs.Prelude.{◌≡◌, ℕ, ◌-◌, ◌+◌, List, [], ◌∷◌, Option, Some, None, Result, Ok, Err}
 use Rattle.star_store.specs.declared.values.Value.{Value}
 use Rattle.star_tree.specs.declared.tree.Argument.TheOpen as tree
@@ -56,7 +56,8 @@ all_left c levels p o (f ∷ fs) = all_left c levels p o fs >>= λ _. remaining_
 abbrev pub next_turn : World → ℕ → Site → Output → OpenClause → Action (Unit {0})
 next_turn c levels p o f = turn_of c levels p o f f.next
 
--- The rest before the call is that of the clause that it opened, if it did. If it stopped: the end of such a run.
+-- The rest before the call is the rest of the clause that the call opened, if it opened one. If the call stopped, it is
+-- the end of such a run.
 abbrev pub Opens : World → ℕ → Site → Output → Outcome (Unit {0}) → Result (Option OpenClause) EvalError → State → Type 0
 Opens c levels p o rest (Ok x) new = rest ≡ opened_left c levels p o x new
 Opens c levels p o rest (Err e) new = Ends rest e new
@@ -87,7 +88,7 @@ filled w levels p cs v o = do
   _ ← all_clauses (variables w) w.setting (semantics w levels) p cs v (last w levels p o)
   give (container o)
 
--- a list comprehension whose frame is that of the block after a token, and a dictionary comprehension
+-- a list comprehension with a frame of the block that begins at a token, and a dictionary comprehension
 abbrev pub making_list : World → ℕ → Site → ℕ → Expression → Clauses → Action Value
 making_list w levels p token e cs =
     list_comprehension (variables w) w.setting (semantics w levels) p (1 + token) e cs

@@ -18,7 +18,7 @@ use star_meaning::site::Site;
 use star_store::arena::write::Change;
 use star_store::values::Value;
 use star_tree::tree::{Clause, Clauses, Entry, Expression};
-use star_world::parts::{enter, new_empty_dict, new_empty_list};
+use star_world::construct::{enter, new_empty_dict, new_empty_list};
 use star_world::world::World;
 
 /// A list comprehension: the first iterable, its frame, the list, the clauses.
@@ -89,7 +89,7 @@ fn fill(
     Ok(output.container())
 }
 
-/// The turns of an open clause, among them those of all clauses that are opened in them; then it is left.
+/// The turns of an open clause, with the turns of all clauses that are opened in them. Then the clause is left.
 #[cycle(run)]
 #[tactic(auto, using(crate::proofs::Clauses::none_around, crate::proofs::Spends::leave_spends))]
 fn run_turns<'t>(

@@ -41,12 +41,12 @@ use star_machine::fault::{EvalError, fault_at};
 use star_machine::machine::Machine;
 use star_meaning::fault::FaultCode;
 use star_meaning::given::Arguments;
-use star_meaning::site::Site;
+use star_meaning::site::{Flow, Site};
 use star_outline::outline::{Body, Definition};
 use star_store::defaults::Defaults;
 use star_store::values::{Entries, Value, Values};
 use star_tree::tree::{Argument, Entry, Expression, Parameter};
-use star_world::parts::{answer_of, new_closure, new_string};
+use star_world::construct::{new_closure, new_string};
 use star_world::variables::read;
 use star_world::world::World;
 
@@ -573,7 +573,7 @@ fn call_function(
     run_function(machine, world, levels, site, called, &shares)
 }
 
-/// The run of a function each of whose parameters gets the value at its own position. `Deep` if no level is left.
+/// The run of a function where each parameter gets the value at its own position. `Deep` if no level is left.
 #[cycle(run)]
 #[tactic(auto, using(star_meaning::proofs::Levels::call_at, star_meaning::proofs::Levels::call_at_none, star_enter::proofs::Positional::run_positional_is))]
 fn run_positional(
@@ -654,6 +654,16 @@ fn finish_call(
         machine.deactivate();
     }
     answer
+}
+
+/// The value that a function returns if its statements end so: None without a `return`.
+fn answer_of(flow: Flow) -> Value
+    ensures { result ≡ calls.answer_of flow }
+{
+    match flow {
+        Flow::Return(value) => value,
+        _ => Value::NoneValue,
+    }
 }
 
 /// The answer of a body: the returned value, or None if the statements end; of a lambda, the value of its expression.

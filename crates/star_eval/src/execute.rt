@@ -21,8 +21,8 @@ use star_store::values::Value;
 use star_tree::tree::{
     Arm, BinaryOperator, Expression, Form, LoadedName, Name, Parameter, Position, Statement, Target,
 };
+use star_world::construct::site_of;
 use star_world::loads::load_names;
-use star_world::parts::site_of;
 use star_world::variables::{bind, read};
 use star_world::world::World;
 

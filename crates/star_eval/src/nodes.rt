@@ -12,7 +12,7 @@ use star_attribute::methods::attribute;
 use star_machine::fault::EvalError;
 use star_machine::machine::Machine;
 use star_meaning::site::Site;
-use star_operators::comparisons::compared;
+use star_operators::comparisons::comparison;
 use star_operators::operators::{operate, prefix};
 use star_operators::slices::slice;
 use star_operators::subscript::index;
@@ -20,7 +20,7 @@ use star_store::values::Value;
 use star_tree::tree::{BinaryOperator, Comparator, Entry, Expression, Name, UnaryOperator};
 use star_world::world::World;
 
-/// What is between the brackets of a slice, `[start:stop:stride]`: each part may be absent.
+/// The parts between the brackets of a slice, `[start:stop:stride]`. Each may be absent.
 #[derive(Clone, Copy)]
 pub struct SliceParts<'t> {
     pub start: &'t Option<Boxed<Expression>>,
@@ -131,7 +131,7 @@ pub(crate) fn evaluate_comparison(
     let x = evaluate(machine, world, levels, site, left)?;
     let y = evaluate(machine, world, levels, site, right)?;
     let line = site.line;
-    compared(machine, world.setting(), levels, line, comparator, x, y)
+    comparison(machine, world.setting(), levels, line, comparator, x, y)
 }
 
 /// `and`: the right operand only if the left one is true.

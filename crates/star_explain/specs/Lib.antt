@@ -1,2 +1,2 @@
--- What a person is told of a run that stopped.
+-- The message for a person about a run that stopped.
 pub mod Trail

@@ -19,12 +19,12 @@ pub(crate) enum Wanted {
     Numeral,
     /// A dict, or an iterable of pairs.
     Pairs,
-    /// No list and no dict.
+    /// Any value except a list or a dict.
     Key,
 }
 
 impl Wanted {
-    /// Whether a value of a type may be it.
+    /// Whether a value of this type may be of this kind.
     pub(crate) fn is_met(self, kind: Type) -> bool {
         let is_iterable = matches!(kind, Type::List | Type::Tuple | Type::Dict | Type::Range);
         match self {
@@ -57,7 +57,7 @@ impl Wanted {
     }
 }
 
-/// The first and second argument of built-in functions that do not take anything.
+/// The first and second argument of built-in functions that do not take every value.
 const FUNCTIONS: &[(&'static str, Wanted, Wanted)] = &[
     ("abs", Wanted::Int, Wanted::Anything),
     ("all", Wanted::Iterable, Wanted::Anything),
@@ -74,7 +74,7 @@ const FUNCTIONS: &[(&'static str, Wanted, Wanted)] = &[
     ("zip", Wanted::Iterable, Wanted::Iterable),
 ];
 
-/// The first and second argument of methods that do not take anything.
+/// The first and second argument of methods that do not take every value.
 const METHODS: &[(Type, &'static str, Wanted, Wanted)] = &[
     (Type::List, "extend", Wanted::Iterable, Wanted::Anything),
     (Type::List, "insert", Wanted::Int, Wanted::Anything),

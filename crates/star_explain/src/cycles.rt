@@ -49,7 +49,7 @@ fn orders_of(alloc: Global, ends: &Ends, roots: &[usize]) -> Result<Vec<usize>, 
     Ok(orders)
 }
 
-/// The cycle of a file that lies on one, from that file on.
+/// The cycle that a file is on, from that file on.
 fn cycle_from(alloc: Global, ends: &Ends, first: usize) -> Result<Vec<usize>, AllocError> {
     let mut files = Vec::new(alloc);
     let mut at = first;
@@ -82,7 +82,7 @@ impl Cycles {
         Ok(cycles)
     }
 
-    /// The cycle of a file, where it lies on one that is not known yet.
+    /// The cycle that a file is on, if that cycle is not known yet.
     fn add(&mut self, alloc: Global, ends: &Ends, root: usize) -> Result<(), AllocError> {
         let End::Load { .. } = ends.end(root) else {
             return Ok(());
@@ -101,7 +101,7 @@ impl Cycles {
         Ok(())
     }
 
-    /// The number of the cycle that a file lies on.
+    /// The number of the cycle that a file is on.
     pub(crate) fn number(&self, file: usize) -> Option<usize> {
         self.of.get(file).copied().flatten()
     }

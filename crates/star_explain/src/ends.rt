@@ -1,5 +1,5 @@
-//! How each file of a run ended, or what is told of it where none was run; and for a file that fails by a load, the file
-//! or cycle that its loads lead to.
+//! How each file of a run ended, or the verdict on it if no file was run. For a file that fails by a load, also the
+//! file or cycle that its loads lead to.
 
 use crate::texts::{Said, Saying};
 use crate::trail::Trail;
@@ -41,14 +41,14 @@ pub(crate) struct EvalError {
     pub said: Option<String>,
     /// The trail of its fault.
     pub trail: Option<Trail>,
-    /// The word that its fault is about, where that is known.
+    /// The word that its fault is about, if it is known.
     pub mark: Option<Mark>,
     /// The text on its fault, if more is known than its code.
     pub told: Option<Said>,
 }
 
 impl EvalError {
-    /// Nothing.
+    /// The remains of a run that nothing is known about.
     fn new() -> EvalError {
         EvalError {
             said: None,
@@ -100,11 +100,11 @@ impl EvalError {
 #[derive(Drop)]
 pub(crate) struct Ends {
     pub ends: Vec<End>,
-    /// The files that each one loads.
+    /// The files that each file loads.
     pub loads: Vec<Vec<usize>>,
     /// The numbers of the files that were reached, in order.
     pub reached: Vec<usize>,
-    /// The remains of the run of each one, if it stopped.
+    /// The remains of the run of each file, if it stopped.
     pub stops: Vec<EvalError>,
     /// Whether files were run.
     pub are_run: bool,
@@ -114,7 +114,7 @@ pub(crate) struct Ends {
 #[derive(Clone, Copy)]
 pub(crate) struct Counts {
     pub good: usize,
-    /// Those with a fault of their own.
+    /// Files with a fault of their own.
     pub own: usize,
     pub by_loads: usize,
 }
@@ -169,7 +169,7 @@ fn stop_of(
 }
 
 impl Ends {
-    /// Nothing is known of the files, of which there are `files`.
+    /// The ends of `files` files that nothing is known about.
     fn new(alloc: Global, files: usize) -> Result<Ends, AllocError> {
         let mut loads = Vec::with_capacity(alloc, files)?;
         let mut stops = Vec::with_capacity(alloc, files)?;
@@ -282,7 +282,7 @@ impl Ends {
         self.ends.get(n).copied().unwrap_or(End::Unknown)
     }
 
-    /// A file has this end.
+    /// Gives a file this end.
     pub(crate) fn set(&mut self, n: usize, end: End) {
         if let Some(place) = self.ends.get_mut(n) {
             *place = end;

@@ -8,7 +8,7 @@ use star_mistakes::mistake::Mistake;
 use star_mistakes::place::{Mark, label_of, push_column, push_place, push_source};
 use std::alloc::{AllocError, Global};
 
-/// How many of some files are named.
+/// How many files a line names at most.
 const NAMED: usize = 3;
 
 /// One thing to be mended.
@@ -20,7 +20,7 @@ pub(crate) struct Entry {
     /// Lines below the source line, each with its end.
     pub notes: String,
     pub help: Option<String>,
-    /// The file whose fault it is, where other files may fail by it.
+    /// The file whose fault it is, if other files may fail by it.
     pub root: Option<usize>,
     /// Further files whose runs stop here, for the same reason.
     pub more: Vec<usize>,
@@ -100,7 +100,7 @@ const MORE: [&str; 2] = ["more run stops here", "more runs stop here"];
 
 const FAIL: [&str; 2] = ["file fails by it", "files fail by it"];
 
-/// `N files fail by it: ..`: nothing where there is none.
+/// `N files fail by it: ..`, or nothing if there are no files.
 fn push_files(
     all: &mut String,
     files: &Files,

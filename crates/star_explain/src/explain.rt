@@ -40,11 +40,11 @@ struct Telling<'a> {
     more: usize,
     /// Whether the prelude does not parse.
     is_blind: bool,
-    /// Whether the faults of the prelude are told.
+    /// Whether the entries of the prelude have been added or counted.
     has_prelude: bool,
 }
 
-/// What is told of a run that stopped.
+/// The message about a run that stopped.
 #[derive(Clone, Copy)]
 struct Message<'s> {
     front: &'static str,
@@ -70,7 +70,7 @@ fn cure_of(code: FaultCode) -> Option<&'static str> {
     }
 }
 
-/// What is told by the code alone.
+/// The message that the code alone gives.
 fn by_code(code: &'static str) -> Message<'static> {
     let (text, help) = match page_of(code) {
         Some(page) => (page.short, Some(page.cure)),
@@ -83,7 +83,7 @@ fn by_code(code: &'static str) -> Message<'static> {
     }
 }
 
-/// What is told of a run that stopped, and the cure.
+/// The message about a run that stopped, with the cure.
 fn told_of<'s>(code: FaultCode, stop: &'s EvalError) -> Message<'s> {
     match (&stop.told, &stop.said) {
         (Some(told), _) => Message {
@@ -104,7 +104,7 @@ fn told_of<'s>(code: FaultCode, stop: &'s EvalError) -> Message<'s> {
 }
 
 impl<'a> Telling<'a> {
-    /// Whether there is room for another entry. Where there is none, it is counted.
+    /// Whether there is room for another entry. If there is none, the entry is counted.
     fn has_room(&mut self) -> bool {
         let has_room = self.form.is_whole || self.entries.len() < ENTRIES;
         if !has_room {
@@ -113,7 +113,8 @@ impl<'a> Telling<'a> {
         has_room
     }
 
-    /// Whether the run of a file stops where another one did, for the same reason. Then it is added there.
+    /// Whether the run of a file stops where another one did, for the same reason. Then the file is added to the
+    /// other's entry.
     fn is_added(&mut self, n: usize, mark: Mark, text: &str) -> Result<bool, AllocError> {
         for entry in &mut self.entries {
             if entry.root.is_some() && entry.mark == mark && entry.text.as_str() == text {
@@ -156,7 +157,7 @@ impl<'a> Telling<'a> {
         Ok(())
     }
 
-    /// The entries of a file with static faults: whether there is one.
+    /// Adds the entries of a file with static faults, and returns whether there is one.
     fn statics(&mut self, n: usize) -> Result<bool, AllocError> {
         let mut root = Some(n);
         for mistake in self.sources.mistakes(n)? {
@@ -167,7 +168,7 @@ impl<'a> Telling<'a> {
         Ok(root.is_none())
     }
 
-    /// The entries of the prelude, once.
+    /// Adds the entries of the prelude, once.
     fn prelude(&mut self) -> Result<(), AllocError> {
         match self.sources.prelude {
             Some(prelude) if !self.has_prelude => {
@@ -232,7 +233,7 @@ impl Ways {
         })
     }
 
-    /// The first file that was found of the cycle that a file lies on.
+    /// The first file that was found of the cycle that a file is on.
     fn first_of_cycle(&self, file: usize) -> Option<usize> {
         let number = self.cycles.number(file)?;
         self.cycles.all.get(number)?.first().copied()
@@ -312,7 +313,7 @@ impl<'a> Telling<'a> {
         Ok(())
     }
 
-    /// The text of all entries: none where there is no entry.
+    /// The text of all entries: empty if there is no entry.
     fn text(&self, ways: &Ways) -> Result<String, AllocError> {
         let (alloc, files) = (self.sources.alloc, self.sources.files);
         let mut all = String::new(alloc);

@@ -27,7 +27,7 @@ pub const PAGES: [Page; 26] = [
     Page {
         code: "bad_indent",
         short: "wrong indentation",
-        means: "A line is indented by a tab, or further or less than the lines around it allow.",
+        means: "A line is indented by a tab, or it ends a block and is indented like none of the blocks around it.",
         program: "    if True:\n        x = 1\n      y = 2",
         cure: "Indent the lines of a block by the same number of spaces. Tabs are not allowed.",
     },

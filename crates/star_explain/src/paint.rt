@@ -24,7 +24,7 @@ impl Color {
     }
 }
 
-/// Writes a text, in a colour where that is wanted.
+/// Writes a text, in a colour if `is_colored`.
 pub(crate) fn push_colored(
     all: &mut String,
     text: &str,

@@ -24,7 +24,7 @@ pub(crate) struct Saying<'a> {
     pub alloc: Global,
     pub code: FaultCode,
     pub found: &'a Found,
-    /// The string of the load statement, where the fault is in one.
+    /// The string of the load statement, if the fault is in one.
     pub module: &'a str,
 }
 
@@ -55,7 +55,7 @@ fn with_article(value: &Shown) -> &'static str {
     }
 }
 
-/// The text of a value, where one is told.
+/// The text of a value; empty for `Nothing`, which a program cannot have.
 fn told_text(value: &Shown) -> &str {
     match value.of {
         Type::Nothing => "",
@@ -63,7 +63,7 @@ fn told_text(value: &Shown) -> &str {
     }
 }
 
-/// A colon before the text of a value, where one is told.
+/// A colon before the text of a value, if the text is not empty.
 fn colon(value: &Shown) -> &'static str {
     if told_text(value).is_empty() {
         ""
@@ -80,7 +80,7 @@ fn type_of(value: Option<&Shown>) -> Option<Type> {
     }
 }
 
-/// A value that is not of the kind that is wanted.
+/// The value, if it is not of the kind that is needed.
 fn unmet<'v>(wanted: Wanted, value: Option<&'v Shown>) -> Option<&'v Shown> {
     match value {
         Some(value) if !wanted.is_met(value.of) => Some(value),
@@ -228,7 +228,7 @@ impl<'a> Saying<'a> {
         }
     }
 
-    /// A text, and `left sign right` after a colon, where both have a text.
+    /// A text, and `left sign right` after a colon, if both have a text.
     fn with_both<'x>(
         self,
         text: &[Part],
@@ -321,7 +321,7 @@ impl<'a> Saying<'a> {
         }
     }
 
-    /// What a word in quotes names, a text, and a word that does not fit.
+    /// A name in quotes, a text, and a word that does not fit.
     fn misfit_of<'x>(
         self,
         owner: &'x str,
@@ -338,7 +338,7 @@ impl<'a> Saying<'a> {
         ])
     }
 
-    /// A call of what a program defines, or of what may not be called.
+    /// The text on a call of a function that a program defines, or of a value that may not be called.
     fn call(self, callee: &Shown, misfit: &Option<Misfit>) -> Result<Option<String>, AllocError> {
         let name = callee.text.as_str();
         match misfit {
@@ -510,7 +510,7 @@ impl<'a> Saying<'a> {
         }
     }
 
-    /// The text on a key, in a display or of a value that cannot be one.
+    /// The text on a key that comes twice in a display, or on a value that cannot be a key.
     fn key(self, key: &Shown) -> Result<Option<String>, AllocError> {
         if self.code != FaultCode::Key {
             return self.no_key(key);
@@ -518,7 +518,7 @@ impl<'a> Saying<'a> {
         self.with_word("the key ", key.text.as_str(), " comes twice in this dict")
     }
 
-    /// The text on a value that is unpacked to so many targets.
+    /// The text on a value with `items` items that is unpacked to `targets` targets.
     fn unpacked(
         self,
         value: &Shown,
@@ -583,7 +583,7 @@ impl<'a> Saying<'a> {
         }
     }
 
-    /// The name that was probably meant for a word, of those that were found.
+    /// The name that was probably meant by a word, among the names that were found.
     fn near(self, word: &str) -> Result<Option<String>, AllocError> {
         let mut names = Vec::new(self.alloc);
         for name in &self.found.names {
@@ -675,7 +675,7 @@ impl<'a> Saying<'a> {
         }
     }
 
-    /// The text and the cure: none if the part that was found does not go with the code.
+    /// The text and the cure; `None` if the part that was found does not go with the code.
     pub(crate) fn said(self) -> Result<Option<Said>, AllocError> {
         match self.text()? {
             Some(text) => Ok(Some(Said {

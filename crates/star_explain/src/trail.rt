@@ -20,7 +20,7 @@ pub(crate) struct Trail {
     home: usize,
     /// The line of its fault in the report.
     line: usize,
-    /// The statements and calls, the innermost first: none where they do not lead to that line.
+    /// The statements and calls, the innermost first: none if they do not lead to that line.
     steps: Vec<Step>,
     ghost of_line: { spec.IsOfLine home line steps.items } by { Prim.hlevel props },
 }
@@ -86,7 +86,7 @@ pub(crate) fn mark_of_line(files: &Files, file: usize, line: usize) -> Mark {
     Line::numbered(text_of(files, file), line).mark(file)
 }
 
-/// The line of a step, where it is a statement.
+/// The line of a step, if it is a statement.
 fn statement(step: Step) -> Option<(usize, usize)> {
     match step {
         Step::Statement { file, line, .. } => Some((usize::try_from(file).unwrap_or(0), line)),

@@ -31,7 +31,7 @@ fn closes(kind: Kind) -> bool {
     )
 }
 
-/// Whether a token ends what is gone over, or what is bound.
+/// Whether a token ends the value that a loop goes over, or the targets that are bound.
 fn ends_part(kind: Kind) -> bool {
     matches!(
         kind,
@@ -153,7 +153,7 @@ impl<'a> Words<'a> {
         self.mark(self.find(from, sign)?)
     }
 
-    /// The words for the value that is gone over or unpacked.
+    /// The words for the value that a loop goes over or that is unpacked.
     fn source(self, from: usize) -> Option<Mark> {
         let sign = match self.find(from, "in") {
             Some(at) => at,

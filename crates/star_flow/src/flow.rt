@@ -7,11 +7,11 @@ ghost use Rattle.std.specs.Prelude.{◌<◌};
 use crate::schedule::{Next, Schedule};
 use std::sync::{Condvar, Mutex, Wait};
 
-/// Hands out files to loaders, each when all its loads have ended. It is a hint: that a file is handed out promises
-/// nothing of it, and a file that is not handed out is begun by whoever asks for it.
+/// Hands out files to loaders, each when all its loads have ended. It is a hint. It promises nothing of a file that it
+/// hands out, and a file that it does not hand out is begun by whoever asks for it.
 #[derive(Drop)]
 pub struct Flow {
-    // For each file those that load it.
+    // For each file, the files that load it.
     importers: Vec<Vec<usize>>,
     state: Mutex<Schedule>,
     // Notified when a file is ready, and at the end.

@@ -16,7 +16,7 @@ pub enum Next {
     Over,
 }
 
-/// Which files are ready: those all of whose loads have ended.
+/// The files that are ready: those whose loads have all ended.
 #[derive(Drop)]
 pub struct Schedule {
     missing: Vec<usize>,

@@ -7,10 +7,10 @@
 use std::alloc::{AllocError, Global};
 use std::sync::{Condvar, Mutex, Wait};
 
-/// So many bytes of texts may be read ahead in vain.
+/// This many bytes of texts may be read ahead in vain.
 const BYTES_AHEAD: usize = 1 << 18;
 
-/// What is known of a file.
+/// The state of a file in the search.
 #[derive(Drop)]
 enum State {
     /// Nobody has asked for it.
@@ -47,8 +47,8 @@ struct Files {
     allowed: usize,
 }
 
-/// Hands out files to readers: the roots, the loads of all files that are reached, and some ahead of time. It is a hint:
-/// a file that is not handed out is read by whoever goes over the reached files in the end.
+/// Hands out files to readers: the roots, the loads of all files that are reached, and some ahead of time. It is a
+/// hint: a file that is not handed out is read by whoever goes over the reached files in the end.
 #[derive(Drop)]
 pub struct Search {
     files: Mutex<Files>,
@@ -81,7 +81,7 @@ impl Files {
         Ok(None)
     }
 
-    /// These files are reached, and so are those that lead on from files which were read ahead.
+    /// These files are reached, and so are those to which loads lead from files that were read ahead.
     fn find_all(&mut self, found: Vec<usize>) -> Result<(), AllocError> {
         let mut todo = found;
         for _turn in 0..usize::MAX {
@@ -142,7 +142,7 @@ impl Files {
 }
 
 impl Search {
-    /// A search from these roots, among files whose texts have so many bytes.
+    /// A search from these roots, among files whose texts have these sizes in bytes.
     pub fn new(alloc: Global, sizes: Vec<usize>, roots: Vec<usize>) -> Result<Search, AllocError> {
         let mut states = Vec::with_capacity(alloc, sizes.len())?;
         for _ in 0..sizes.len() {
@@ -165,7 +165,7 @@ impl Search {
 
     /// The next file for a reader, which has read the one that it was given before, with the files that this one loads.
     /// It waits while no file is to be read and some are being read. `None` if all reached files are read or being read
-    /// by others. The error: an allocation failed; the reader then leaves the search.
+    /// by others. The error: an allocation failed. The reader then leaves the search.
     pub fn take<R: Wait>(
         &self,
         rt: &R,

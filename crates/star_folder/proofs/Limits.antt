@@ -66,7 +66,7 @@ short_walked held (Read label bytes ∷ vs) left h =
     list_any-append is_too_long (files_in vs) ((label, bytes) ∷ [])
     ∙ or_from (list_any is_too_long (files_in vs)) (is_too_long (label, bytes) || false) (short_walked held vs _ h.1) (or_from (is_too_long (label, bytes)) false short refl)
 
--- the files of a walk pass no limit
+-- the files of a walk are within all limits
 pub within_limits : (held : Contents) (vs : List Visit) (left : List Place) (files : List File) → IsWalk held vs left → files ≡ with_files [] (files_in vs) → limit_passed files ≡ None
 within_limits held vs left files h e =
     let few : length (with_files [] (files_in vs)) ≤ 10000 = omega (arith, few_with [] (files_in vs), few_walked held vs left h) in

@@ -16,7 +16,7 @@ sorted_all : (l : String Global) (es : List (String Global × Kind)) → AllByRe
 sorted_all l [] h = tt
 sorted_all l (e ∷ es) h = (h.0, sorted_all l es h.1)
 
--- the order of the names is that of their bytes
+-- the names are in the order of their bytes
 pub sorted_names : (es : List (String Global × Kind)) → IsStrictlySortedBy string_cmp (map (λ e. e.0) es)
     → IsStrictlySortedBy (slice_cmp nat_cmp) (map (λ e. e.0) (map entry_of es))
 unfolding IsStrictlySortedBy
@@ -28,13 +28,13 @@ pub front : (o : Option (List ℕ)) (bytes : List ℕ) → Reads o bytes → (al
 front None bytes h = (bytes, tt, sym (take_all 1048577 bytes h))
 front (Some all) bytes h = (all, refl, h)
 
--- too long if the file is
+-- a front is too long only if the file is
 pub long_front : (all bytes : List ℕ) → bytes ≡ take 1048577 all → 1048576 < length bytes → 1048576 < length all
 long_front all bytes e h = omega (arith, ap length e, length-take 1048577 all, h)
 
 short_front : (all bytes : List ℕ) → bytes ≡ take 1048577 all → length bytes ≤ 1048576 → length all ≤ 1048577
 short_front all bytes e h = omega (arith, ap length e, length-take 1048577 all, h)
 
--- and it is the file if it is not
+-- a front of at most 1,048,576 bytes is the whole file
 pub whole_front : (all bytes : List ℕ) → bytes ≡ take 1048577 all → length bytes ≤ 1048576 → bytes ≡ all
 whole_front all bytes e h = e ∙ take_all 1048577 all (short_front all bytes e h)

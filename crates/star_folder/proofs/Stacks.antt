@@ -22,7 +22,7 @@ left-append ps qs = ap (map place_view) (reverse-append ps qs) ∙ map-append pl
 pub length-left : (ps : List Found) → length (left_of ps) ≡ length ps
 length-left ps = length-map (reverse ps) place_view ∙ length-reverse ps
 
--- the places to which entries lead
+-- the places that entries lead to
 abbrev pub met : List ℕ → List (String Global × Kind) → List Place
 met path es = filter_map (place_in path) (map entry_of es)
 

@@ -12,7 +12,7 @@ use Rattle.star_folder.specs.Walk.{IsWalk, Passes, Place, Visit, bytes_at, bytes
 use Rattle.star_folder.specs.declared.state.Walk.{Walk}
 use Rattle.star_folder.proofs.Stacks.{few_opened, length-left}
 
--- the counts and the files of a walk are those of its visits
+-- the counts and the files of a walk are the counts and the files of its visits
 pub record Counted (vs : List Visit) (files : List File) (entries number bytes : ℕ) : Type 0 where
   pub found : files ≡ with_files [] (files_in vs)
   pub listed : entries ≡ entries_in vs

@@ -9,11 +9,12 @@ use Rattle.star_label.specs.Label.{name_of, package_of}
 use Rattle.star_folder.specs.declared.folder.Kind.{Kind}
 use Rattle.star_folder.specs.declared.folder.Kind.TheVariants as kind
 
--- the path of a folder in the folder at `top`: that of the latter, `/`, and its own; no folder has the empty path
+-- the path of a folder in the folder at `top`: `top`, `/`, and its own path. If `top` is empty, it is its own path
+-- alone.
 abbrev pub folder_at : List ℕ → List ℕ → List ℕ
 folder_at top path = if bytes_eq top [] then path else top ++ 47 ∷ path
 
--- the path of the file of a label in the folder at `top`: that of the folder of its package, `/`, and its name
+-- the path of the file of a label in the folder at `top`: the path of the folder of its package, `/`, and its name
 abbrev pub file_at : List ℕ → List ℕ → List ℕ
 file_at top label = folder_at top (package_of label) ++ 47 ∷ name_of label
 

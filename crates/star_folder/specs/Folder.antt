@@ -12,8 +12,8 @@ Entry = List ℕ × Kind
 abbrev pub entry_of : String Global × Kind → Entry
 entry_of e = (string_bytes e.0, e.1)
 
--- the entries of the folder at a path, in the byte order of their names, and the bytes of the file of a label; none if
--- the folder does not tell
+-- the entries of the folder at a path, in the byte order of their names, and the bytes of the file of a label: none if
+-- the folder does not tell them
 pub record Contents : Type 0 where
   pub entries : List ℕ → Option (List Entry)
   pub bytes : List ℕ → Option (List ℕ)
@@ -22,7 +22,7 @@ pub record Contents : Type 0 where
 abbrev pub unsaid : Contents
 unsaid = record { entries = λ path. None; bytes = λ label. None }
 
--- it is just this, unless nothing is said of it
+-- it is just this, unless the folder does not tell it
 abbrev pub Says : {A : Type 0} → Option A → A → Type 0
 Says None x = ⊤
 Says (Some y) x = x ≡ y

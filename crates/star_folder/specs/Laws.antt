@@ -17,7 +17,7 @@ abbrev pub IsLedTo : List Visit → Place → Type 0
 IsLedTo [] place = ⊥
 IsLedTo (v ∷ vs) place = IsIn place (opened v) ⊎ IsLedTo vs place
 
--- a whole walk visits exactly the top, and the places to which its visited folders lead
+-- a whole walk visits exactly the top, and the places that its visited folders lead to
 abbrev pub VisitsAll : Type 0
 VisitsAll =
     (held : Contents) (visits : List Visit) (place : Place) → IsWalk held visits [] → IsVisited visits place

@@ -12,7 +12,7 @@ use Rattle.star_folder.specs.declared.memory.Row.{Row}
 abbrev pub rows_of : MemoryFolder → List Row
 rows_of folder = folder.rows.now
 
--- entries with that of a row, if it is one of the folder at the path
+-- entries with the entry of a row, if it is an entry of the folder at the path
 abbrev pub with_row : List ℕ → List Entry → Row → List Entry
 with_row path made r =
     if bytes_eq r.path.now path then insert_entry (slice_cmp nat_cmp) made r.name.now r.kind else made

@@ -29,8 +29,8 @@ is_folder p = not (is_file p)
 abbrev pub is_star : List ℕ → Bool
 is_star name = ends_with nat_eq name (codes ".star")
 
--- the places to which an entry of the folder at a path leads: a file whose name ends in `.star`, and a folder; none if
--- its name is not a segment
+-- The place that an entry of the folder at a path leads to: a file whose name ends in `.star`, or a folder. None if its
+-- name is not a segment.
 abbrev pub leads_to : Kind → List ℕ → List ℕ → Option Place
 leads_to kind.File path name = if is_star name && is_segment name then Some (FileOf (label_text path name)) else None
 leads_to kind.Folder path name = if is_segment name then Some (FolderAt (with_folder path name)) else None
@@ -70,7 +70,7 @@ abbrev pub bytes_at : Visit → ℕ
 bytes_at (Listed path entries) = 0
 bytes_at (Read label bytes) = length bytes
 
--- the same of all visits, the last one first; the files come in the order of their reading
+-- The same of all visits, the last one first. The files come in the order of their reading.
 abbrev pub entries_in : List Visit → ℕ
 entries_in [] = 0
 entries_in (v ∷ vs) = entries_in vs + entries_at v
@@ -96,7 +96,7 @@ Passes listed count size (Read label bytes) =
     (count < 10000) × (length bytes ≤ 1048576) × IsUtf8 bytes × (size + length bytes ≤ 268435456)
 
 -- A walk has made these visits, the last one first, and has these places left, the next one first. It begins at the
--- top; after a folder was listed its files come next, and then its folders.
+-- top. After a folder was listed its files come next, and then its folders.
 abbrev pub IsWalk : Contents → List Visit → List Place → Type 0
 IsWalk held [] left = left ≡ FolderAt [] ∷ []
 IsWalk held (v ∷ vs) left = (rest : List Place) × IsWalk held vs (place_of v ∷ rest) × Tells held v

@@ -19,9 +19,9 @@ use std::fs::{self, DirEntry, File, FileType};
 use std::io::{self, ErrorKind, Read};
 use std::rt::Files;
 
-/// The folder at a path of the disk. It counts its failures. It promises nothing of its content, since no contract can
-/// say what a disk gives. A name that is not UTF-8 makes the listing of its folder fail. A link is neither a file nor a
-/// folder, but the path itself may be one.
+/// The folder at a path of the disk. It counts its failures. It promises nothing about its content, since no contract
+/// can say what a disk gives. A name that is not UTF-8 makes the listing of its folder fail. A link is neither a file
+/// nor a folder, but the path itself may be one.
 #[derive(Drop)]
 pub struct DiskFolder<'a, R> {
     rt: &'a R,
@@ -185,7 +185,7 @@ pub struct Front {
     pub bytes: Vec<u8>,
 }
 
-/// Reads at most `most` of the first bytes of the file at a path; `size` is a guess of how many bytes it has.
+/// Reads at most `most` of the first bytes of the file at a path. `size` is a guess of how many bytes it has.
 pub fn front_of_size<R: Files + AllocGlobal>(
     rt: &R,
     path: String,

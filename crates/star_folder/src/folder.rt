@@ -61,7 +61,7 @@ pub trait Folder {
     /// How many of its reads have failed.
     ghost failed_reads: { Self → ℕ };
 
-    /// The entries of the folder at a path, by their names. The path has a slash between two folders; at the top it is
+    /// The entries of the folder at a path, by their names. The path has a slash between two folders. At the top it is
     /// empty.
     fn list(&mut self, alloc: Global, path: &str) -> Result<BTreeMap<String, Kind>, FolderError>
         ensures tells { IfOk result (λ m. Says ((holds self.old).entries path.now) (map entry_of m.entries)) }

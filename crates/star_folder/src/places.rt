@@ -34,7 +34,7 @@ fn relative(alloc: Global, name: &str) -> Result<String, AllocError>
     Ok(text)
 }
 
-/// The label of a file in a folder; `None` if its name is not a segment.
+/// The label of a file in a folder. `None` if its name is not a segment.
 fn label_in(alloc: Global, path: &FolderPath, name: &str) -> Result<Option<Label>, ServeError>
     ensures label { IfOk result (λ o. option_map text_of o
         ≡ (if is_segment name.now then Some (label_text (path_of path.now) name.now) else None)) }
@@ -91,7 +91,7 @@ fn place_in(
     }
 }
 
-/// Puts a place on the stack of the files or on that of the folders.
+/// Puts a place on the stack of the files or on the stack of the folders.
 fn push_place(
     place: Option<Found>,
     files: &mut Vec<Found>,

@@ -93,7 +93,7 @@ fn about_length(alloc: Global, members: &Map<String, Value>) -> Result<String, A
     Ok(all)
 }
 
-/// Lines about the members of a bundle that is refused so.
+/// Lines about the members of a bundle that is refused with this error.
 fn about_members(
     alloc: Global,
     members: &Map<String, Value>,

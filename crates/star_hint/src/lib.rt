@@ -12,7 +12,7 @@
 //! Each returns lines, or an empty text if no more is known than the reason. Begin at `bundle.rt`, from its end. It has
 //! no public types of its own.
 //!
-//! No report rests on any of this. It is proved to be safe and to end; `tests/refusals` has its texts.
+//! No report rests on any of this. It is proved to be safe and to end. `tests/refusals` has its texts.
 #![tactic(auto)]
 
 pub mod bundle;

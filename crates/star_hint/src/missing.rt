@@ -27,7 +27,7 @@ fn names_of(alloc: Global, entries: &BTreeMap<String, Kind>) -> Result<Vec<&str>
     Ok(names)
 }
 
-/// Whether a name is that of an entry which is not a folder.
+/// Whether an entry that is not a folder has this name.
 fn is_there(entries: &BTreeMap<String, Kind>, name: &str) -> bool {
     for (other, kind) in entries.iter() {
         if other.as_str() == name {
@@ -73,7 +73,7 @@ pub fn about_file<L: Listing>(
     Ok(Some(all))
 }
 
-/// The label that a text is; `None` for another text.
+/// The label that a text is. `None` for another text.
 fn label_in(alloc: Global, text: &str) -> Option<Label> {
     Label::read(alloc, text, "").ok()
 }

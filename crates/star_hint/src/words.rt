@@ -22,7 +22,7 @@ struct Refused<'a> {
 }
 
 impl<'a> Refused<'a> {
-    /// A word with its refusal; `None` for want of memory.
+    /// A word with its refusal. `None` for want of memory.
     fn of(word: &'a str, error: ServeError) -> Option<Refused<'a>> {
         match error {
             ServeError::BadRoot | ServeError::BadPrelude => Some(Refused {

@@ -22,7 +22,7 @@ use Rattle.star_outcome.specs.contracts.told.Told as told
 use Rattle.star_outcome.specs.contracts.told.ToldProduct.TheImpl as product
 use Rattle.star_outcome.specs.contracts.trace.Trace as trace
 use Rattle.star_host.specs.contracts.common.LoadContext as common
-use Rattle.star_outcome.specs.declared.naming.RunId
+use Rattle.star_outcome.specs.declared.run_id.RunId
 use Rattle.star_reading.proofs.Closures.{tuple_sync}
 use Rattle.star_reading.proofs.Crossing.{program_sync, statement_sync}
 use Rattle.star_reading.proofs.code.StaticFault.TheSendSync as of_fault

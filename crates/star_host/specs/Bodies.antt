@@ -1,4 +1,4 @@
--- The outcome of the run of a body, and what it means in its world.
+-- The outcome of the run of a body, and its meaning in its world.
 use Rattle.std.specs.Prelude.{◌≡◌, ◌-◌, ℕ, IfOk, List, Result}
 use Rattle.star_tree.specs.declared.tree.Statement.{Statement}
 use Rattle.star_meaning.specs.Module.{local}
@@ -12,7 +12,7 @@ use Rattle.star_plan.specs.Plan.{Plan}
 use Rattle.star_plan.specs.Results.{IsOutcome, Ran}
 use Rattle.star_plan.specs.Shelves.{IsOwn}
 
--- where the world is ready, this is what a file of these statements means
+-- if the world is ready, this is the meaning of a file with these statements
 abbrev pub MeansLocal : {E : Type 0} → World → ℕ → List Statement → Result Outcome E → Type 0
 MeansLocal w steps ss result = AreReady w steps → IfOk result (λ o. semantics w.setting o ≡ local w.setting steps ss)
 

@@ -1,4 +1,4 @@
--- The data that loaders share: `IsContext` says that it is right for a plan; and the facts at a turn of a file whose
+-- The data that loaders share: `IsContext` says that it is right for a plan. Also the facts at a turn of a file whose
 -- loads are being asked for.
 use Rattle.std.specs.Arc.{arc_value}
 use Rattle.std.specs.Prelude.{◌≡◌, ◌+◌, ◌^◌, ◌<◌, ◌≤◌, ℕ, List, IfSome, Some, length, slice_get}
@@ -21,7 +21,7 @@ use Rattle.star_host.specs.declared.loading.Turn.{Turn}
 use Rattle.star_host.specs.declared.loading.Turn.TheVariants.{Again, Enter, Ended}
 
 -- the data that loaders share is right for the cache: its files, the read files, their programs, its shelf, the
--- prelude's file and the steps; the read files are the plan of the files, and the ends that are known are good there
+-- prelude's file and the steps. The read files are the plan of the files, and the ends that are known are good there
 pub record IsContext (files : List File) (plan : Plan) (shelf : List ℕ) (c : LoadContext) : Type 0 where
   pub files_are : c.files.now ≡ files
   pub row_is : readings c.reads.now ≡ plan.reads
@@ -36,7 +36,7 @@ pub record IsContext (files : List File) (plan : Plan) (shelf : List ℕ) (c : L
   pub placed : ArePlaced files plan c.programs.now
   pub ends_are : AreGoodEnds plan c.ends.now
 
--- so it is, and the loaders may work for the roots of the plan
+-- the data are right, and the loaders may work for the roots of the plan
 abbrev pub MayWork : List File → Plan → List ℕ → LoadContext → Type 0
 MayWork files plan shelf c =
     IsContext files plan shelf c × IsWithin files plan × (c.roots.now ≡ plan.roots)

@@ -19,8 +19,8 @@ use std::alloc::{AllocError, Global};
 use std::sync::Arc;
 
 /// The data that all loaders share: the read files, the programs of all files, a shelf for the module of each file, the
-/// good ends that are known before the run, by the numbers of their files, the roots, the prelude's file, the number of
-/// loaders, the steps that a body may take, which are 1 to 100,000,000, and the seed for the hashes of keys.
+/// roots, the prelude's file, the number of loaders and the seed for the hashes of keys. Also the good ends that are
+/// known before the run, by the numbers of their files, and the steps that a body may take, which are 1 to 100,000,000.
 #[derive(Drop)]
 pub struct LoadContext<'s, 'r, 'p, 't> {
     pub alloc: Global,

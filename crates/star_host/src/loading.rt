@@ -13,8 +13,8 @@ use crate::table::{fault_at, program_at};
 use crate::work::body_end;
 use star_cache::{LoadCache, Reply, Seat};
 use star_outcome::module::{Ended, Module};
-use star_outcome::naming::RunId;
 use star_outcome::open_file::OpenFile;
+use star_outcome::run_id::RunId;
 use star_outcome::told::Told;
 use star_outcome::trace::{CyclicLoad, Trace};
 use star_reading::reading::numbers;
@@ -103,7 +103,8 @@ fn boxed(alloc: Global, made: Module) -> Result<Box<Module>, AllocError>
     Box::new(alloc, made).map_err(AllocError::from)
 }
 
-/// Publishes the module of a file, all of whose loads have been answered: what the cache is told of it.
+/// Publishes the module of a file, all of whose loads have been answered. Returns the product that the cache gets for
+/// it.
 pub fn published<'s, 'r, 'p, 't, J: RunId, G: Gate>(
     common: &LoadContext<'s, 'r, 'p, 't>,
     gate: &G,
@@ -125,7 +126,7 @@ pub fn published<'s, 'r, 'p, 't, J: RunId, G: Gate>(
     Ok(Told::new(n, good, note))
 }
 
-/// Publishes the module of a file, and then tells the cache that the file has ended.
+/// Publishes the module of a file, and then records in the cache that the file has ended.
 fn end<'s, 'r, 'p, 't, J: RunId, R: Wait, G: Gate>(
     rt: &R,
     common: &LoadContext<'s, 'r, 'p, 't>,
@@ -240,7 +241,7 @@ fn ask_root<J: RunId, R: Wait>(
     }
 }
 
-/// The turns of a load, until its root is told. A file whose load was begun asks for it again once it has ended.
+/// The turns of a load, until its root is answered. A file whose load was begun asks for it again once it has ended.
 fn turns<'s, 'r, 'p, 't, J: RunId, R: Wait, G: Gate>(
     rt: &R,
     common: &LoadContext<'s, 'r, 'p, 't>,

@@ -1,10 +1,10 @@
-//! What a run is asked for, how it is done, and what is known before it.
+//! The options of a run, and the facts that are known before it.
 
 use star_outcome::good_end::GoodEnd;
 use star_reading::parses::Parsed;
 use star_reading::reading::Trees;
 
-/// What a run is asked for, and how it is done.
+/// The options of a run: the files that are asked for, and how it is done.
 #[derive(Clone, Copy)]
 pub struct RunOptions<'a> {
     /// The files that are asked for, by their numbers.
@@ -20,7 +20,7 @@ pub struct RunOptions<'a> {
     pub seed: u64,
 }
 
-/// What is known of the files before a run.
+/// The facts that are known of the files before a run.
 #[derive(Clone, Copy)]
 pub struct Known<'k, 't> {
     /// Where the trees of the other files are put.

@@ -24,8 +24,8 @@ use star_cache::{Book, LoadCache, Seat};
 use star_flow::{Flow, Graph};
 use star_label::files::Files as Labels;
 use star_outcome::good_end::GoodEnd;
-use star_outcome::naming::RunId;
 use star_outcome::outcome::{Kept, Run};
+use star_outcome::run_id::RunId;
 use star_outcome::shelf::Shelf;
 use star_outcome::told::Told;
 use star_outcome::trace::{CyclicLoad, Trace};
@@ -38,7 +38,7 @@ use std::sync::ledger::Blank;
 use std::thread;
 use std::thread::Threads;
 
-/// Why a run fails. It has no text of its own: the program shows that of `ServeError`, which it becomes.
+/// Why a run fails. It has no text of its own: it becomes a `ServeError`, whose text the program shows.
 #[derive(Clone, Copy, Debug, PartialEq, Eq)]
 pub enum RunError {
     /// An allocation failed.
@@ -301,7 +301,7 @@ fn closed_of<J: RunId>(
     })
 }
 
-/// The run of a naming that is new: of the files, the plan and the shelf of this data.
+/// The run of a new run id: of the files, the plan and the shelf of this data.
 fn run_over<'s, 'r, 'p, 't, R: Threads + Wait + Sync, G: Gate + Sync>(
     rt: &R,
     common: &LoadContext<'s, 'r, 'p, 't>,
@@ -321,7 +321,7 @@ fn run_over<'s, 'r, 'p, 't, R: Threads + Wait + Sync, G: Gate + Sync>(
     run_named::<Brand, R, G>(rt, common, gate, blank)
 }
 
-/// Loads the roots: the modules of exactly the reached files, in order, each with its outcome; and loads that were
+/// Loads the roots: the modules of exactly the reached files, in order, each with its outcome. Also the loads that were
 /// refused, each on a cycle of loads. `Memory` if an allocation failed, `Unpublished` as `RunError` says.
 pub fn run<R: Threads + Wait + Sync, G: Gate + Sync>(
     rt: &R,
@@ -367,9 +367,9 @@ fn enough(loaders: usize, reads: &Reads, ends: &[Option<GoodEnd>]) -> usize
     loaders.min(read_count(reads).saturating_sub(idle)).max(1)
 }
 
-/// As `run`, with what is known of the files before it. The trees and the read files stay with the caller, who may leave
-/// them to the end of the process: to free them takes a tenth of the time of a run of many small files. The errors are
-/// those of `run`.
+/// As `run`, with the facts that are known of the files before it. The trees and the read files stay with the caller,
+/// who may leave them to the end of the process: to free them takes a tenth of the time of a run of many small files.
+/// The errors are those of `run`.
 pub fn run_in<'t, R: Threads + Wait + Sync, G: Gate + Sync>(
     rt: &R,
     alloc: Global,

@@ -16,8 +16,8 @@ use crate::loading::{LoadError, load};
 use crate::running::RunError;
 use crate::table::is_read;
 use star_cache::{Book, Entry, LoadCache, Seat};
-use star_outcome::naming::RunId;
 use star_outcome::outcome::Kept;
+use star_outcome::run_id::RunId;
 use star_outcome::told::Told;
 use star_outcome::trace::Trace;
 use star_reading::reading::Read;
@@ -96,7 +96,7 @@ fn settle_first<'s, 'r, 'p, 't, J: RunId, R: Wait, G: Gate>(
 }
 
 /// Closes the cache if all reached files have ended: its book, and the loaders' counts. They should have ended when the
-/// loaders have; if one has not, each is asked for once more. The error: the first that these requests meet,
+/// loaders have. If one has not, each is asked for once more. The error: the first that these requests meet,
 /// `Unpublished` if a file has still not ended, `Memory` if an allocation failed.
 pub(crate) fn closed<'s, 'r, 'p, 't, J: RunId, R: Wait, G: Gate>(
     rt: &R,
@@ -127,7 +127,7 @@ pub(crate) fn closed<'s, 'r, 'p, 't, J: RunId, R: Wait, G: Gate>(
     }
 }
 
-/// Adds the module of a file, as told in its entry of a closed book, after the modules of all reached files below it.
+/// Adds the module of a file, by its entry in a closed book, after the modules of all reached files below it.
 fn keep<J: RunId>(
     kept: &mut Vec<Kept>,
     n: usize,

@@ -1,4 +1,4 @@
-//! The run of one file: its body, over the stores of all files that it needs; or its end, if that is known already.
+//! The run of one file: its body, over the stores of all files that it needs, or its end, if it is known already.
 
 ghost use Rattle.std.specs.Prelude.{◌≡◌, ◌<◌, ◌≤◌, Some, IfOk, ℕ, Contains, length, map};
 ghost use Rattle.star_host.specs.Bodies.{IsRan, IsRunOf, MeansLocal};
@@ -20,8 +20,8 @@ use star_about::look::{Fault, seek};
 use star_found::about::Found;
 use star_module::{Outcome, Remains, run_body};
 use star_outcome::module::{Body, Ended, Left, Module};
-use star_outcome::naming::RunId;
 use star_outcome::reachable::{gathered, stores_of};
+use star_outcome::run_id::RunId;
 use star_outcome::store_row::StoreRow;
 use star_scope::loads::Load;
 use star_scope::program::Program;
@@ -147,8 +147,8 @@ fn ended_of<J: RunId>(
     }
 }
 
-/// Runs the body of a file over the modules of its loads, which are all good, between the two hooks of the gate. Answers
-/// the end of the file.
+/// Runs the body of a file over the modules of its loads, which are all good, between the two hooks of the gate.
+/// Answers the end of the file.
 fn run<'s, 'r, 'p, 't, J: RunId, G: Gate>(
     common: &LoadContext<'s, 'r, 'p, 't>,
     gate: &G,
@@ -183,8 +183,8 @@ fn run<'s, 'r, 'p, 't, J: RunId, G: Gate>(
     ended_of::<J>(common.alloc, home, outcome, common.steps, reaches, found)
 }
 
-/// The end of a file whose loads are all good: the one that is known already, or else that of its run. The gate is called
-/// only for a run.
+/// The end of a file whose loads are all good: the one that is known already, or else the end of its run. The gate is
+/// called only for a run.
 pub(crate) fn body_end<'s, 'r, 'p, 't, J: RunId, G: Gate>(
     common: &LoadContext<'s, 'r, 'p, 't>,
     gate: &G,

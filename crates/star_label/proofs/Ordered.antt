@@ -1,4 +1,4 @@
--- The order of labels: those of files ascend, so each is that of one file.
+-- The order of labels: the labels of files ascend, so each is the label of one file.
 use Rattle.std.proofs.Common.{◌≡◌, ◌⊎◌, inl, inr, ℕ, ◌<◌, List, [], length, get_or, map, refl, sym, ap, ◌∙◌, arith}
 use Rattle.std.specs.declared.cmp.Ordering.{Ordering}
 use Rattle.std.specs.declared.cmp.Ordering.TheVariants.{Less, Equal, Greater}
@@ -34,7 +34,7 @@ less files m n ordered low high =
     let first : m < length files = omega arith in
     rw (← label_is files m first, ← label_is files n high) (Less-from_sorted order (map (λ f. f.0) files) m n [] ordered low below)
 
--- a label is that of one file
+-- a label is the label of one file
 pub one_file : (files : List File) (i j : ℕ) → IsOrdered files → i < length files → j < length files → label_at files i ≡ label_at files j → i ≡ j
 one_file files i j ordered h k e = by_order (cases_order i j)
   where

@@ -105,7 +105,7 @@ no_star p ps h = ap (λ b. if b then [] else p ∷ before_star ps) h
 star : (p : Parameter) (ps : List Parameter) → is_star (parameter p) ≡ true → before_star (p ∷ ps) ≡ []
 star p ps h = ap (λ b. if b then [] else p ∷ before_star ps) h
 
--- the room for what is left, past a parameter that takes no rest
+-- the room for the arguments that are left, past a parameter that takes no rest
 
 left_room : {A B : Type 0} (p : Parameter) (ps : List Parameter) → takes_rest (parameter p) ≡ false → (A → B) → A ⊎ (list_any (λ p. takes_rest (parameter p)) (p ∷ ps) ≡ true) → B ⊎ (list_any (λ p. takes_rest (parameter p)) ps ≡ true)
 left_room p ps t f (inl q) = inl (f q)
@@ -115,7 +115,7 @@ more_room : {A B : Type 0} (p : Parameter) (ps : List Parameter) → (A → B) �
 more_room p ps f (inl q) = inl (f q)
 more_room p ps f (inr q) = inr (or_right (takes_rest (parameter p)) (list_any (λ p. takes_rest (parameter p)) ps) q)
 
--- past a parameter that is no star and takes no rest, and that has as many names as arguments go to it
+-- past a parameter that is not a star and takes no rest, and that has as many names as arguments go to it
 goes_along : (p : Parameter) (ps : List Parameter) (vs ws : List Value) (k : ℕ) → length vs ≡ k + length ws → ((xs : List (List ℕ)) → length (before_names (keyword_of (parameter p)) xs) ≡ k + length xs) → is_star (parameter p) ≡ false → takes_rest (parameter p) ≡ false → Goes p ps false false vs ws
 unfolding Placed Room open_of
 goes_along p ps vs ws k e named h t = record {

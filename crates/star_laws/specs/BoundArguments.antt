@@ -24,7 +24,7 @@ place_at ps i = length (filter (λ p. gets_some (parameter p)) (take i ps))
 abbrev pub single : Name → Option Value → Option (Name × BoundArgument)
 single n o = option_map (λ v. (n, One v)) o
 
--- the positional argument that follows those of the names before; else the keyword argument; else the default
+-- the positional argument after the arguments of the names before, else the keyword argument, else the default
 abbrev pub GetsOne : List Parameter → Arguments → ℕ → Name → Option Value → Option (Name × BoundArgument) → Type 0
 GetsOne ps g i n d x =
     (IsPositional ps g.positional i → x ≡ single n (slice_get g.positional (length (keywords_of (take i ps)))))

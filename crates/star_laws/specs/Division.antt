@@ -2,7 +2,7 @@
 use Rattle.std.specs.Prelude.{◌≡◌, ◌≢◌, ◌⊎◌, ℤ, pos, ◌+ℤ◌, ◌*ℤ◌, ◌<ℤ◌, ◌≤ℤ◌}
 use Rattle.star_store.specs.Arithmetic.{floored, left_over}
 
--- the ints between 0 and a divisor, above 0 or below; 0 is included, and the divisor is not
+-- the ints between 0 and a divisor, above 0 or below. 0 is included, and the divisor is not
 abbrev pub IsRemainder : ℤ → ℤ → Type 0
 IsRemainder r y = ((pos 0 ≤ℤ r) × (r <ℤ y)) ⊎ ((y <ℤ r) × (r ≤ℤ pos 0))
 

@@ -24,7 +24,7 @@ abbrev pub loops_over : ℕ → ℕ → List Value → ℕ
 loops_over home at [] = 0
 loops_over home at (v ∷ vs) = (if leads_to v home at then 1 else 0) + loops_over home at vs
 
--- the counters of a module are right for the open loops; these are the values that they go over, the innermost first
+-- the counters of a module are right for the open loops, given by the values that they go over, the innermost first
 pub record AreCounted (s : Store) (loops : List Value) : Type 0 where
   -- each list and dictionary has as many open iterations as loops go over it, and no other cell has any
   pub counted : (at : ℕ) (a : HeapCell) → slice_get s.cells at ≡ Some a
@@ -49,7 +49,7 @@ LoopsAreCounted = (w : Setting) (line n : ℕ) (v : Value) (s t : State) (loops 
     → (AreCounted s.store loops → iterate w line v s ≡ Done n t → AreCounted t.store (v ∷ loops))
     × (AreCounted s.store (v ∷ loops) → leave v s ≡ Done tt t → AreCounted t.store loops)
 
--- The law: the rules of writing ask for the open iterations of a list or a dictionary; these are the open loops over
+-- The law: the rules of writing ask for the open iterations of a list or a dictionary. These are the open loops over
 -- it.
 abbrev pub OpenIterationsAreOpenLoops : Type 0
 OpenIterationsAreOpenLoops = (s : Store) (loops : List Value) (at : ℕ) (a : HeapCell) → AreCounted s loops

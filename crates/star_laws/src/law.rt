@@ -19,8 +19,9 @@ pub fn one_quotient()
     ensures { OneQuotient }
 {}
 
-/// The items of a range are `start + i * step`, for each `i` from 0 on, as long as they come before the stop: below it
-/// if the step is above 0, above it if the step is below 0. (`docs/LANGUAGE.md`, "Iterables".)
+/// The items of a range are `start + i * step`, for each `i` from 0 on, as long as they come before the stop. They come
+/// before it if they are below it and the step is above 0, or above it and the step is below 0. (`docs/LANGUAGE.md`,
+/// "Iterables".)
 pub fn ranges_step_to_their_stop()
     ensures { RangesStepToTheirStop }
 {}
@@ -50,8 +51,8 @@ pub fn keys_have_equality()
     ensures { KeysHaveEquality }
 {}
 
-/// The arguments of a call are bound to the parameters (whose defaults are there) under exactly these conditions: each
-/// parameter without a default gets a positional or a keyword argument, no parameter gets both, and no argument of
+/// The arguments of a call are bound to the parameters (whose defaults are there) under exactly three conditions. Each
+/// parameter without a default gets a positional or a keyword argument. No parameter gets both, and no argument of
 /// either kind is left over. (`docs/LANGUAGE.md`, "Calls".)
 pub fn bound_where_they_fit()
     ensures { BoundWhereTheyFit }
@@ -64,7 +65,7 @@ pub fn given_names_differ()
 {}
 
 /// If arguments are bound, each parameter but a bare `*` gets its own, in order. A parameter of one value gets the next
-/// positional argument, if it comes before a star and one is left; else the keyword argument of its name; else its
+/// positional argument, if it comes before a star and one is left, else the keyword argument of its name, else its
 /// default. `*name` gets the positional arguments that are left, and `**name` the keyword arguments that name no
 /// parameter. (`docs/LANGUAGE.md`, "Calls".)
 pub fn bound_as_given()
@@ -91,7 +92,7 @@ pub fn loops_are_counted()
     ensures { LoopsAreCounted }
 {}
 
-/// The rules of writing ask for the open iterations of a list or a dictionary; these are the open loops over it.
+/// The rules of writing ask for the open iterations of a list or a dictionary. These are the open loops over it.
 /// (`docs/LANGUAGE.md`, "Values".)
 pub fn open_iterations_are_open_loops()
     ensures { OpenIterationsAreOpenLoops }

@@ -1,8 +1,8 @@
 //! Laws of the definitions, in the subject's own words: a check that the definitions have the intended meaning.
 //!
-//! The definitions of `star_meaning` and `star_store` are written as computations. The laws state their consequences:
-//! quotient and remainder make up the int again; a range has just the ints that its steps reach; equal keys are the
-//! same key; a call binds its arguments exactly if each parameter gets one; the counter of a list counts the loops that
+//! The definitions of `star_meaning` and `star_store` are written as computations. The laws state their consequences.
+//! Quotient and remainder make up the int again. A range has just the ints that its steps reach. Equal keys are the
+//! same key. A call binds its arguments exactly if each parameter gets one. The counter of a list counts the loops that
 //! are open over it.
 //!
 //! Begin at `law.rt`. Each law is an empty function whose contract is the statement, with the section of

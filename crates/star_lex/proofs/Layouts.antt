@@ -1,6 +1,6 @@
 -- The logical lines, one after the other.
 use Rattle.std.proofs.Common.{Vec, IsErrAnd, ◌≡◌, ℕ, suc, ◌+◌, ◌≤◌, ◌<◌, Bool, true, false, cond, List, [], ◌∷◌, ◌++◌, length, take, drop, Option, Some, None, Result, Ok, Err, refl, subst, ap, arith, sym, ◌∙◌, append_assoc}
-use Rattle.star_lex.specs.declared.cut.Cut.{Cut}
+use Rattle.star_lex.specs.declared.scan.Piece.{Piece}
 use Rattle.star_lex.specs.declared.token.Token.{Token}
 use Rattle.std.specs.declared.alloc.Global.{Global}
 use Rattle.star_lex.specs.declared.token.SyntaxFault.{SyntaxFault}
@@ -19,33 +19,33 @@ more_closed_more n None = refl
 more_closed_more n (Some m) = ap Some (omega arith)
 
 -- the lines after the first
-abbrev pub after : List Cut → List Line
+abbrev pub after : List Piece → List Line
 after [] = []
 after (c ∷ cs) = lines 0 cs
 
-put_first : (c : Cut) (cs : List Cut) (p : ℕ × ℕ) (ls : List Line) → ls ≡ line_of (take p.0 cs) p.1 ∷ after (drop p.0 cs)
+put_first : (c : Piece) (cs : List Piece) (p : ℕ × ℕ) (ls : List Line) → ls ≡ line_of (take p.0 cs) p.1 ∷ after (drop p.0 cs)
     → put c ls ≡ line_of (take (counted 1 p).0 (c ∷ cs)) (counted 1 p).1 ∷ after (drop (counted 1 p).0 (c ∷ cs))
 put_first c cs p ls e = let s : 1 + p.0 ≡ suc p.0 = omega arith in rw (e, s) refl
 
 -- the first line, and those after it
-pub first_line : (d : ℕ) (cs : List Cut) → lines d cs ≡ line_of (take (line_size d cs).0 cs) (line_size d cs).1 ∷ after (drop (line_size d cs).0 cs)
+pub first_line : (d : ℕ) (cs : List Piece) → lines d cs ≡ line_of (take (line_size d cs).0 cs) (line_size d cs).1 ∷ after (drop (line_size d cs).0 cs)
 first_line d [] = refl
 first_line d (c ∷ cs) =
-    let q = line_size (depth_after d c.piece) cs in
+    let q = line_size (depth_after d c.kind) cs in
     let p : Bool → ℕ × ℕ = λ v. cond v (0, 0) (counted 1 q) in
-    let ih = put_first c cs q (lines (depth_after d c.piece) cs) (first_line (depth_after d c.piece) cs) in
-    elim (ends_line d c.piece) as (λ v. cond v (line_of [] 0 ∷ lines 0 cs) (put c (lines (depth_after d c.piece) cs)) ≡ line_of (take (p v).0 (c ∷ cs)) (p v).1 ∷ after (drop (p v).0 (c ∷ cs)))
+    let ih = put_first c cs q (lines (depth_after d c.kind) cs) (first_line (depth_after d c.kind) cs) in
+    elim (ends_line d c.kind) as (λ v. cond v (line_of [] 0 ∷ lines 0 cs) (put c (lines (depth_after d c.kind) cs)) ≡ line_of (take (p v).0 (c ∷ cs)) (p v).1 ∷ after (drop (p v).0 (c ∷ cs)))
     [ true ↦ refl | false ↦ ih ]
 
 -- the depth before a line does not matter
 lay_any : (line at d e : ℕ) (ts : List ℕ) (ls : List Line) (l : Line) (more : List Line) → ls ≡ l ∷ more → lay line at ts d ls ≡ lay line at ts e ls
 lay_any line at d e ts ls l more h = rw h refl
 
-pub lay_first : (line at d : ℕ) (ts : List ℕ) (cs : List Cut) → let p = line_size 0 cs in let l = line_of (take p.0 cs) p.1 in
+pub lay_first : (line at d : ℕ) (ts : List ℕ) (cs : List Piece) → let p = line_size 0 cs in let l = line_of (take p.0 cs) p.1 in
     lay line at ts d (lines 0 cs) ≡ line_tokens ts l >>= (λ front. onto front (lay line at (opened_after ts l) p.1 (after (drop p.0 cs))))
 lay_first line at d ts cs = rw (first_line 0 cs) refl
 
-pub lay_next : (line at d : ℕ) (ts : List ℕ) (cs : List Cut) → lay line at ts d (lines 0 cs) ≡ lay line at ts 0 (lines 0 cs)
+pub lay_next : (line at d : ℕ) (ts : List ℕ) (cs : List Piece) → lay line at ts d (lines 0 cs) ≡ lay line at ts 0 (lines 0 cs)
 lay_next line at d ts cs = let p = line_size 0 cs in lay_any line at d 0 ts (lines 0 cs) (line_of (take p.0 cs) p.1) (after (drop p.0 cs)) (first_line 0 cs)
 
 refused_at : (whole : Result (List Token) SyntaxFault) (xs : List Token) (r k : Result (List Token) SyntaxFault) (e : SyntaxFault)
@@ -72,7 +72,7 @@ pub err_of : (r : Result (Vec Token Global) SyntaxFault) (e : SyntaxFault) → I
 err_of (Ok v) e h = absurd h
 err_of (Err x) e h = ap Err h
 
-pub line_refused : (whole : Result (List Token) SyntaxFault) (line at : ℕ) (opened : List ℕ) (xs new : List Token) (rest first : List Cut) (p : ℕ × ℕ) (e : SyntaxFault)
+pub line_refused : (whole : Result (List Token) SyntaxFault) (line at : ℕ) (opened : List ℕ) (xs new : List Token) (rest first : List Piece) (p : ℕ × ℕ) (e : SyntaxFault)
     → whole ≡ onto xs (lay line at opened 0 (lines 0 rest)) → p ≡ line_size 0 rest → first ≡ take p.0 rest
     → Pushes (onto xs (line_tokens opened (line_of first p.1))) (Err e) new → Answers whole (Err e)
 line_refused whole line at opened xs new rest first p e w s f t =
@@ -82,7 +82,7 @@ line_refused whole line at opened xs new rest first p e w s f t =
     let t' : Pushes (onto xs (line_tokens opened l)) (Err e) new = subst (λ m. Pushes (onto xs (line_tokens opened m)) (Err e) new) same t in
     refused whole xs new (line_tokens opened l) (lay line at (opened_after opened l) q.1 (after (drop q.0 rest))) e (w ∙ ap (onto xs) (lay_first line at 0 opened rest)) t'
 
-pub line_read : (whole : Result (List Token) SyntaxFault) (line at : ℕ) (opened opened' : List ℕ) (xs new : List Token) (rest first tail : List Cut) (p : ℕ × ℕ)
+pub line_read : (whole : Result (List Token) SyntaxFault) (line at : ℕ) (opened opened' : List ℕ) (xs new : List Token) (rest first tail : List Piece) (p : ℕ × ℕ)
     → whole ≡ onto xs (lay line at opened 0 (lines 0 rest)) → p ≡ line_size 0 rest → first ≡ take p.0 rest → tail ≡ drop p.0 rest
     → onto xs (line_tokens opened (line_of first p.1)) ≡ Ok new → opened' ≡ opened_after opened (line_of first p.1)
     → whole ≡ onto new (lay line at opened' p.1 (after tail))
@@ -95,10 +95,10 @@ line_read whole line at opened opened' xs new rest first tail p w s f b t o =
     let r = read whole xs new (line_tokens opened l) (lay line at (opened_after opened l) q.1 (after (drop q.0 rest))) (w ∙ ap (onto xs) (lay_first line at 0 opened rest)) t' in
     rw (b, s, o') r
 
-pub at_end : (line at d : ℕ) (opened : List ℕ) (tail : List Cut) → length tail < 1 → lay line at opened d (after tail) ≡ Ok (finish d opened line at)
+pub at_end : (line at d : ℕ) (opened : List ℕ) (tail : List Piece) → length tail < 1 → lay line at opened d (after tail) ≡ Ok (finish d opened line at)
 at_end line at d opened [] h = refl
 at_end line at d opened (c ∷ cs) h = absurd (omega arith)
 
-pub at_next : (line at d : ℕ) (opened : List ℕ) (tail : List Cut) → 1 ≤ length tail → lay line at opened d (after tail) ≡ lay line at opened 0 (lines 0 (drop 1 tail))
+pub at_next : (line at d : ℕ) (opened : List ℕ) (tail : List Piece) → 1 ≤ length tail → lay line at opened d (after tail) ≡ lay line at opened 0 (lines 0 (drop 1 tail))
 at_next line at d opened [] h = absurd (omega arith)
 at_next line at d opened (c ∷ cs) h = lay_next line at d opened cs

@@ -1,5 +1,5 @@
-mod Cuts
 mod Layouts
 mod Order
 mod Parts
+mod Scanned
 mod Signs

@@ -5,7 +5,7 @@ use Rattle.std.proofs.Math.Nat.{le-mul_of_pos_right}
 use Rattle.std.proofs.lemmas.Bool.{leb-true}
 use Rattle.std.proofs.lemmas.List.{take_all, length-drop}
 use Rattle.star_lex.specs.declared.value.Quoting.{Quoting}
-use Rattle.star_lex.specs.Values.{Text, Part, begins, number, at_most, quotes, part, meant, more, closed_from, closed, decoded_from, decoded, opening, inside}
+use Rattle.star_lex.specs.Values.{Text, Part, starts_with, number, at_most, quotes, part, meant, more, closed_from, closed, decoded_from, decoded, opening, inside}
 
 past_limit_end : (most n : ℕ) → most < n → (v : Bool) → nat_le n most ≡ v → at_most most (Some n) ≡ None
 past_limit_end most n over true e = absurd (omega (arith, leb-true n most e))
@@ -32,16 +32,16 @@ pub closed_nil : (q : Quoting) → closed q [] ≡ None
 unfolding closed
 closed_nil q = refl
 
-some_quotes : (q : Quoting) (t : Bool) → q.triple ≡ t → begins (quotes q) [] ≡ false
+some_quotes : (q : Quoting) (t : Bool) → q.triple ≡ t → starts_with (quotes q) [] ≡ false
 some_quotes q true e = rw e refl
 some_quotes q false e = rw e refl
 
-pub closed_here : (q : Quoting) (z : Text) → begins (quotes q) z ≡ true → closed q z ≡ Some (length (quotes q))
+pub closed_here : (q : Quoting) (z : Text) → starts_with (quotes q) z ≡ true → closed q z ≡ Some (length (quotes q))
 unfolding closed
 closed_here q [] e = let f = some_quotes q q.triple refl in cc
 closed_here q (b ∷ z) e = rw e refl
 
-pub closed_never : (q : Quoting) (z : Text) → begins (quotes q) z ≡ false → part q z ≡ None → closed q z ≡ None
+pub closed_never : (q : Quoting) (z : Text) → starts_with (quotes q) z ≡ false → part q z ≡ None → closed q z ≡ None
 unfolding closed
 closed_never q [] e n = refl
 closed_never q (b ∷ z) e n = rw (e, n) refl
@@ -50,7 +50,7 @@ part_nil : (q : Quoting) → part q [] ≡ None
 unfolding part
 part_nil q = refl
 
-pub closed_later : (q : Quoting) (z : Text) (p : Part) → begins (quotes q) z ≡ false → part q z ≡ Some p → 1 ≤ p.0 → closed q z ≡ more p.0 (closed q (drop p.0 z))
+pub closed_later : (q : Quoting) (z : Text) (p : Part) → starts_with (quotes q) z ≡ false → part q z ≡ Some p → 1 ≤ p.0 → closed q z ≡ more p.0 (closed q (drop p.0 z))
 unfolding closed
 closed_later q [] p e s h = let n = part_nil q in cc
 closed_later q (b ∷ z) p e s h = rw (e, s, closed_from-drop (p.0 - 1) q z, drop-part p.0 b z h) refl

@@ -7,9 +7,9 @@ use Rattle.star_lex.specs.declared.token.Punctuator.TheVariants as s
 use Rattle.star_lex.specs.declared.token.Token.{Token}
 use Rattle.star_lex.specs.declared.token.SyntaxFault.{SyntaxFault}
 use Rattle.star_lex.specs.declared.token.SyntaxFault.TheVariants.{BadToken, BadIndent, Memory}
-use Rattle.star_lex.specs.declared.cut.Piece.{Piece}
-use Rattle.star_lex.specs.declared.cut.Piece.TheVariants.{Blank, TabbedBlank, Comment, LineEnd, Continuation, Lexeme, Bad}
-use Rattle.star_lex.specs.declared.cut.Cut.{Cut}
+use Rattle.star_lex.specs.declared.scan.PieceKind.{PieceKind}
+use Rattle.star_lex.specs.declared.scan.PieceKind.TheVariants.{Blank, TabbedBlank, Comment, LineEnd, Continuation, Lexeme, Bad}
+use Rattle.star_lex.specs.declared.scan.Piece.{Piece}
 use Rattle.std.specs.declared.alloc.Global.{Global}
 use Rattle.star_lex.specs.Values.{Text}
 use Rattle.star_lex.specs.Pieces.{line_ends, pieces}
@@ -26,29 +26,29 @@ sign_depth d s.RightBrace = d - 1
 sign_depth d _ = d
 
 -- how many brackets are open after a piece
-abbrev pub depth_after : ℕ → Piece → ℕ
+abbrev pub depth_after : ℕ → PieceKind → ℕ
 depth_after d (Lexeme (k.Punctuator s)) = sign_depth d s
 depth_after d _ = d
 
-abbrev pub ends_line : ℕ → Piece → Bool
+abbrev pub ends_line : ℕ → PieceKind → Bool
 ends_line d LineEnd = d == 0
 ends_line d _ = false
 
 -- the pieces of a logical line, and the depth after it
 pub record Line : Type 0 where
-  pub cuts : List Cut
+  pub content : List Piece
   pub depth : ℕ
 
-abbrev pub put : Cut → List Line → List Line
+abbrev pub put : Piece → List Line → List Line
 put c [] = []
-put c (l ∷ ls) = record { cuts = c ∷ l.cuts; depth = l.depth } ∷ ls
+put c (l ∷ ls) = record { content = c ∷ l.content; depth = l.depth } ∷ ls
 
 -- the pieces between the line ends at depth 0; the number is the depth before the pieces
-abbrev pub lines : ℕ → List Cut → List Line
-lines d [] = record { cuts = []; depth = d } ∷ []
+abbrev pub lines : ℕ → List Piece → List Line
+lines d [] = record { content = []; depth = d } ∷ []
 lines d (c ∷ cs) =
-    if ends_line d c.piece then record { cuts = []; depth = 0 } ∷ lines 0 cs
-    else put c (lines (depth_after d c.piece) cs)
+    if ends_line d c.kind then record { content = []; depth = 0 } ∷ lines 0 cs
+    else put c (lines (depth_after d c.kind) cs)
 
 -- ---- indentation; the open ones, the innermost first
 
@@ -75,11 +75,11 @@ layout [] w = wrong
 layout (t ∷ ts) w = if nat_lt t w then opens else closes_some (closing (t ∷ ts) w)
 
 -- the leading spaces, if there is no tab among the leading blanks
-abbrev pub width : List Cut → Option ℕ
+abbrev pub width : List Piece → Option ℕ
 width [] = Some 0
-width (c ∷ cs) = elim c.piece [ TabbedBlank ↦ None | Blank ↦ Some (c.span.end - c.span.start) | _ ↦ Some 0 ]
+width (c ∷ cs) = elim c.kind [ TabbedBlank ↦ None | Blank ↦ Some (c.span.end - c.span.start) | _ ↦ Some 0 ]
 
-abbrev pub layout_of : List ℕ → List Cut → Layout
+abbrev pub layout_of : List ℕ → List Piece → Layout
 layout_of open_ cs = elim (width cs) [ None ↦ wrong | Some w ↦ layout open_ w ]
 
 abbrev pub opened_by : List ℕ → Layout → Option ℕ → List ℕ
@@ -89,8 +89,8 @@ opened_by ts _ w = ts
 
 -- ---- tokens
 
-abbrev pub mark : Kind → ℕ → ℕ → Token
-mark kind line at = record { kind = kind; line = line; span = record { start = at; end = at } }
+abbrev pub empty_token : Kind → ℕ → ℕ → Token
+empty_token kind line at = record { kind = kind; line = line; span = record { start = at; end = at } }
 
 infixl 10 ◌>>=◌
 abbrev pub ◌>>=◌ : {A B : Type 0} → Result A SyntaxFault → (A → Result B SyntaxFault) → Result B SyntaxFault
@@ -101,32 +101,32 @@ abbrev pub ◌>>=◌ : {A B : Type 0} → Result A SyntaxFault → (A → Result
 abbrev pub onto : List Token → Result (List Token) SyntaxFault → Result (List Token) SyntaxFault
 onto xs r = r >>= (λ ts. Ok (xs ++ ts))
 
--- the first piece that says something: no blank, comment or line end
-abbrev pub first_significant : List Cut → Option Cut
+-- the first significant piece: not a blank, a comment or a line end
+abbrev pub first_significant : List Piece → Option Piece
 first_significant [] = None
 first_significant (c ∷ cs) =
-    elim c.piece [ Blank ↦ first_significant cs | TabbedBlank ↦ first_significant cs | Comment ↦ first_significant cs | LineEnd ↦ first_significant cs | _ ↦ Some c ]
+    elim c.kind [ Blank ↦ first_significant cs | TabbedBlank ↦ first_significant cs | Comment ↦ first_significant cs | LineEnd ↦ first_significant cs | _ ↦ Some c ]
 
 abbrev pub marks : Layout → ℕ → ℕ → Result (List Token) SyntaxFault
-marks opens line at = Ok (mark k.Indent line at ∷ [])
-marks (closes n) line at = Ok (replicate n (mark k.Outdent line at))
+marks opens line at = Ok (empty_token k.Indent line at ∷ [])
+marks (closes n) line at = Ok (replicate n (empty_token k.Outdent line at))
 marks wrong line at = Err (BadIndent line)
 
 abbrev pub onto_marks : List Token → Layout → ℕ → ℕ → Result (List Token) SyntaxFault
 onto_marks xs l line at = onto xs (marks l line at)
 
 -- a line that ends at depth 0 has a NEWLINE after its last token
-abbrev pub newline : ℕ → Option Cut → List Token
-newline zero (Some c) = mark k.Newline c.last c.span.end ∷ []
+abbrev pub newline : ℕ → Option Piece → List Token
+newline zero (Some c) = empty_token k.Newline c.last c.span.end ∷ []
 newline _ _ = []
 
-abbrev pub token_of : Kind → Cut → Token
+abbrev pub token_of : Kind → Piece → Token
 token_of kind c = record { kind = kind; line = c.line; span = c.span }
 
 -- the tokens of a line after its last token so far; a backslash and line end come after a token
-abbrev pub tokens : ℕ → Option Cut → List Cut → Result (List Token) SyntaxFault
+abbrev pub tokens : ℕ → Option Piece → List Piece → Result (List Token) SyntaxFault
 tokens depth before [] = Ok (newline depth before)
-tokens depth before (c ∷ cs) = elim c.piece [
+tokens depth before (c ∷ cs) = elim c.kind [
   | Lexeme kind ↦ onto (token_of kind c ∷ []) (tokens depth (Some c) cs)
   | Continuation ↦ elim before [ None ↦ Err (BadToken c.line) | Some b ↦ tokens depth (Some b) cs ]
   | Bad ↦ Err (BadToken c.line)
@@ -135,21 +135,21 @@ tokens depth before (c ∷ cs) = elim c.piece [
 
 -- the tokens of a logical line; none if it has only blanks and comments
 abbrev pub line_tokens : List ℕ → Line → Result (List Token) SyntaxFault
-line_tokens ts l = elim (first_significant l.cuts) [
+line_tokens ts l = elim (first_significant l.content) [
   | None ↦ Ok []
-  | Some c ↦ marks (layout_of ts l.cuts) c.line c.span.start >>= (λ front. onto front (tokens l.depth None l.cuts))
+  | Some c ↦ marks (layout_of ts l.content) c.line c.span.start >>= (λ front. onto front (tokens l.depth None l.content))
 ]
 
 abbrev pub opened_after : List ℕ → Line → List ℕ
-opened_after ts l = elim (first_significant l.cuts) [ None ↦ ts | Some c ↦ opened_by ts (layout_of ts l.cuts) (width l.cuts) ]
+opened_after ts l = elim (first_significant l.content) [ None ↦ ts | Some c ↦ opened_by ts (layout_of ts l.content) (width l.content) ]
 
-abbrev pub line_of : List Cut → ℕ → Line
-line_of cs d = record { cuts = cs; depth = d }
+abbrev pub line_of : List Piece → ℕ → Line
+line_of cs d = record { content = cs; depth = d }
 
 -- at the end of the text
 abbrev pub finish : ℕ → List ℕ → ℕ → ℕ → List Token
-finish zero ts line at = replicate (length ts - 1) (mark k.Outdent line at) ++ mark k.End line at ∷ []
-finish (suc d) ts line at = mark k.End line at ∷ []
+finish zero ts line at = replicate (length ts - 1) (empty_token k.Outdent line at) ++ empty_token k.End line at ∷ []
+finish (suc d) ts line at = empty_token k.End line at ∷ []
 
 -- the tokens of the lines and of the end of the text; `d` is the depth after the line before
 abbrev pub lay : ℕ → ℕ → List ℕ → ℕ → List Line → Result (List Token) SyntaxFault
@@ -177,9 +177,9 @@ Pushes r (Err e) new = r ≡ Err e
 abbrev pub counted : ℕ → ℕ × ℕ → ℕ × ℕ
 counted n p = (n + p.0, p.1)
 
-abbrev pub line_size : ℕ → List Cut → ℕ × ℕ
+abbrev pub line_size : ℕ → List Piece → ℕ × ℕ
 line_size d [] = (0, d)
-line_size d (c ∷ cs) = if ends_line d c.piece then (0, 0) else counted 1 (line_size (depth_after d c.piece) cs)
+line_size d (c ∷ cs) = if ends_line d c.kind then (0, 0) else counted 1 (line_size (depth_after d c.kind) cs)
 
 -- the spans of tokens are in order between two places: each begins where the one before it ends, or later
 abbrev pub InOrder : ℕ → List Token → ℕ → Type 0

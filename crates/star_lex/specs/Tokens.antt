@@ -4,7 +4,7 @@ use Rattle.star_lex.specs.declared.token.Keyword.{Keyword}
 use Rattle.star_lex.specs.declared.token.Keyword.TheVariants as w
 use Rattle.star_lex.specs.declared.token.Punctuator.{Punctuator}
 use Rattle.star_lex.specs.declared.token.Punctuator.TheVariants as s
-use Rattle.star_lex.specs.Values.{Text, begins}
+use Rattle.star_lex.specs.Values.{Text, starts_with}
 
 abbrev pub keywords : List (Text × Keyword)
 keywords =
@@ -44,7 +44,7 @@ signs =
 -- the keyword that is a word, if one is
 abbrev pub keyword_in : List (Text × Keyword) → Text → Option Keyword
 keyword_in [] z = None
-keyword_in (r ∷ rows) z = if begins r.0 z && length r.0 == length z then Some r.1 else keyword_in rows z
+keyword_in (r ∷ rows) z = if starts_with r.0 z && length r.0 == length z then Some r.1 else keyword_in rows z
 
 unfoldable pub keyword : Text → Option Keyword
 keyword = keyword_in keywords
@@ -61,7 +61,7 @@ longer true a (Some b) = if nat_lt b.1 a.1 then Some a else Some b
 -- the longest of the signs at the front
 abbrev pub longest : List (Text × Punctuator) → Text → Option Found
 longest [] z = None
-longest (r ∷ rows) z = longer (begins r.0 z) (r.1, length r.0) (longest rows z)
+longest (r ∷ rows) z = longer (starts_with r.0 z) (r.1, length r.0) (longest rows z)
 
 unfoldable pub sign : Text → Option Found
 sign = longest signs

@@ -2,8 +2,8 @@
 use Rattle.std.specs.Prelude.{◌≡◌, ◌≤◌, ℕ, zero, suc, ◌+◌, ◌-◌, ◌*◌, Bool, true, false, not, ◌&&◌, ◌||◌, if◌then◌else◌, ◌==◌, nat_lt, nat_le, List, [], ◌∷◌, ◌++◌, length, take, drop, slice_index, Option, Some, None, codes, encode_utf8, unwrap_or}
 use Rattle.std.specs.Char.{is_digit, digit_value, is_ascii_alphanumeric}
 use Rattle.std.specs.List.{prefix_len}
-use Rattle.star_lex.specs.declared.run.Class.{Class}
-use Rattle.star_lex.specs.declared.run.Class.TheVariants as class
+use Rattle.star_lex.specs.declared.prefix.Class.{Class}
+use Rattle.star_lex.specs.declared.prefix.Class.TheVariants as class
 use Rattle.star_lex.specs.declared.value.EscapeValue.{EscapeValue}
 use Rattle.star_lex.specs.declared.value.EscapeValue.TheVariants.{Nothing, Byte, Kept, Scalar}
 use Rattle.star_lex.specs.declared.token.Span.{Span}
@@ -13,12 +13,12 @@ abbrev pub Text : Type 0
 Text = List ℕ
 
 -- whether the second text begins with the first
-abbrev pub begins : Text → Text → Bool
-begins [] z = true
-begins (a ∷ s) [] = false
-begins (a ∷ s) (b ∷ z) = b == a && begins s z
+abbrev pub starts_with : Text → Text → Bool
+starts_with [] z = true
+starts_with (a ∷ s) [] = false
+starts_with (a ∷ s) (b ∷ z) = b == a && starts_with s z
 
--- the text of a token, whose bytes are those from `start` up to `end`
+-- the text of a token: the bytes from `start` up to `end`
 abbrev pub text_at : Text → Span → Text
 text_at z s = take (s.end - s.start) (drop s.start z)
 
@@ -29,7 +29,7 @@ is_line_end b = b == 10 || b == 13
 
 -- how many bytes the line end at the front takes
 abbrev pub line_end_size : Text → ℕ
-line_end_size z = if begins (13 ∷ 10 ∷ []) z then 2 else 1
+line_end_size z = if starts_with (13 ∷ 10 ∷ []) z then 2 else 1
 
 -- ---- classes of bytes
 
@@ -66,9 +66,9 @@ greatest = 9223372036854775807
 -- the value of an int: `0`, a decimal that begins with 1 to 9, `0x` and hexadecimal digits, `0o` and octal digits
 abbrev pub int_of : Text → Option ℕ
 int_of z =
-    if begins (codes "0x") z || begins (codes "0X") z then digits 16 greatest (drop 2 z)
-    else (if begins (codes "0o") z || begins (codes "0O") z then digits 8 greatest (drop 2 z)
-    else (if begins (codes "0") z then (if length z == 1 then Some 0 else None)
+    if starts_with (codes "0x") z || starts_with (codes "0X") z then digits 16 greatest (drop 2 z)
+    else (if starts_with (codes "0o") z || starts_with (codes "0O") z then digits 8 greatest (drop 2 z)
+    else (if starts_with (codes "0") z then (if length z == 1 then Some 0 else None)
     else digits 10 greatest z))
 
 -- ---- strings
@@ -84,10 +84,10 @@ quotes q = if q.triple then q.quote ∷ q.quote ∷ q.quote ∷ [] else q.quote 
 abbrev pub quoting_from : Bool → Text → Option Quoting
 quoting_from raw [] = None
 quoting_from raw (b ∷ z) =
-    if is_quote b then Some (record { raw = raw; quote = b; triple = begins (b ∷ b ∷ []) z }) else None
+    if is_quote b then Some (record { raw = raw; quote = b; triple = starts_with (b ∷ b ∷ []) z }) else None
 
 abbrev pub quoting : Text → Option Quoting
-quoting z = if begins (codes "r") z then quoting_from true (drop 1 z) else quoting_from false z
+quoting z = if starts_with (codes "r") z then quoting_from true (drop 1 z) else quoting_from false z
 
 -- the number of bytes before the inside
 abbrev pub opening : Quoting → ℕ
@@ -170,7 +170,7 @@ abbrev pub closed_from : ℕ → Quoting → Text → Option ℕ
 closed_from left q [] = None
 closed_from (suc left) q (b ∷ z) = closed_from left q z
 closed_from zero q (b ∷ z) =
-    if begins (quotes q) (b ∷ z) then Some (length (quotes q))
+    if starts_with (quotes q) (b ∷ z) then Some (length (quotes q))
     else elim (part q (b ∷ z)) [ None ↦ None | Some p ↦ more p.0 (closed_from (p.0 - 1) q z) ]
 
 unfoldable pub closed : Quoting → Text → Option ℕ
@@ -192,6 +192,6 @@ inside q z = take (length z - (opening q + length (quotes q))) (drop (opening q)
 abbrev pub string_value : Text → Text
 string_value z = elim (quoting z) [ None ↦ [] | Some q ↦ decoded q (inside q z) ]
 
--- the value of an int, and 0 for a text that is none
+-- the value of an int, and 0 for a text that is not an int
 abbrev pub int_value : Text → ℕ
 int_value z = unwrap_or (int_of z) 0

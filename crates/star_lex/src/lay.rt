@@ -7,22 +7,22 @@ ghost use Rattle.std.specs.Prelude.{◌≡◌, ◌+◌, ◌-◌, ◌<◌, ◌≤
 ghost use Rattle.star_lex.specs.Lines as spec;
 ghost use Rattle.star_lex.specs.Lines.{Pushes};
 
-use crate::cut::{Cut, Piece};
+use crate::scan::{Piece, PieceKind};
 use crate::token::{Kind, Punctuator, Span, SyntaxFault, Token};
 use std::alloc::Global;
 
-fn depth_after(depth: usize, piece: Piece) -> usize
+fn depth_after(depth: usize, kind: PieceKind) -> usize
     requires { depth + 1 < 2 ^ 64 }
-    ensures value { result ≡ spec.depth_after depth piece }
+    ensures value { result ≡ spec.depth_after depth kind }
     ensures near { result ≤ depth + 1 }
 {
-    match piece {
-        Piece::Lexeme(
+    match kind {
+        PieceKind::Lexeme(
             Kind::Punctuator(
                 Punctuator::LeftParen | Punctuator::LeftBracket | Punctuator::LeftBrace,
             ),
         ) => depth + 1,
-        Piece::Lexeme(
+        PieceKind::Lexeme(
             Kind::Punctuator(
                 Punctuator::RightParen | Punctuator::RightBracket | Punctuator::RightBrace,
             ),
@@ -31,25 +31,25 @@ fn depth_after(depth: usize, piece: Piece) -> usize
     }
 }
 
-fn ends_line(depth: usize, piece: Piece) -> bool
-    ensures { result ≡ spec.ends_line depth piece }
+fn ends_line(depth: usize, kind: PieceKind) -> bool
+    ensures { result ≡ spec.ends_line depth kind }
 {
-    depth == 0 && matches!(piece, Piece::LineEnd)
+    depth == 0 && matches!(kind, PieceKind::LineEnd)
 }
 
 /// How many pieces the first logical line has, and the depth after it.
-fn line_size(cuts: &[Cut]) -> (usize, usize)
-    ensures value { result ≡ spec.line_size 0 cuts.now }
-    ensures within { result.0 ≤ length cuts.now }
+fn line_size(pieces: &[Piece]) -> (usize, usize)
+    ensures value { result ≡ spec.line_size 0 pieces.now }
+    ensures within { result.0 ≤ length pieces.now }
 {
-    let mut rest = cuts;
+    let mut rest = pieces;
     let mut size = 0;
     let mut depth = 0;
-    while let [cut, more @ ..] = rest {
-        if ends_line(depth, cut.piece) {
+    while let [piece, more @ ..] = rest {
+        if ends_line(depth, piece.kind) {
             return (size, 0);
         }
-        depth = depth_after(depth, cut.piece);
+        depth = depth_after(depth, piece.kind);
         size += 1;
         rest = more;
     }
@@ -76,15 +76,16 @@ fn closing(opened: &[usize], width: usize) -> Option<usize>
     None
 }
 
-/// The first piece of a line that says something.
-fn first_significant(line: &[Cut]) -> Option<Cut>
+/// The first piece of a line that is not a blank, a comment or a line end.
+fn first_significant(line: &[Piece]) -> Option<Piece>
     ensures { result ≡ spec.first_significant line.now }
 {
     let mut rest = line;
-    while let [cut, more @ ..] = rest {
-        match cut.piece {
-            Piece::Blank | Piece::TabbedBlank | Piece::Comment | Piece::LineEnd => {}
-            _ => return Some(*cut),
+    while let [piece, more @ ..] = rest {
+        match piece.kind {
+            PieceKind::Blank | PieceKind::TabbedBlank | PieceKind::Comment | PieceKind::LineEnd =>
+                {}
+            _ => return Some(*piece),
         }
         rest = more;
     }
@@ -92,21 +93,21 @@ fn first_significant(line: &[Cut]) -> Option<Cut>
 }
 
 /// How many spaces lead a line; `None` if there is a tab among them.
-fn width(line: &[Cut]) -> Option<usize>
+fn width(line: &[Piece]) -> Option<usize>
     ensures { result ≡ spec.width line.now }
 {
     let [first, ..] = line else {
         return Some(0);
     };
-    match first.piece {
-        Piece::TabbedBlank => None,
-        Piece::Blank => Some(first.span.end.saturating_sub(first.span.start)),
+    match first.kind {
+        PieceKind::TabbedBlank => None,
+        PieceKind::Blank => Some(first.span.end.saturating_sub(first.span.start)),
         _ => Some(0),
     }
 }
 
 fn empty_token(kind: Kind, line: usize, at: usize) -> Token
-    ensures { result ≡ spec.mark kind line at }
+    ensures { result ≡ spec.empty_token kind line at }
 {
     let span = Span { start: at, end: at };
     Token { kind, line, span }
@@ -152,43 +153,45 @@ fn indent(
 
 /// Pushes the tokens of a line, with the NEWLINE after the last if the line ends at depth 0.
 #[tactic(auto, using(crate::proofs::Layouts::onto_onto))]
-fn push_tokens(out: &mut Vec<Token>, line: &[Cut], depth: usize) -> Result<(), SyntaxFault>
+fn push_tokens(out: &mut Vec<Token>, line: &[Piece], depth: usize) -> Result<(), SyntaxFault>
     ensures { Pushes (spec.onto out.old.items (spec.tokens depth None line.now)) result out.new.items }
 {
     let mut rest = line;
-    let mut before: Option<Cut> = None;
-    while let [cut, more @ ..] = rest {
-        match cut.piece {
-            Piece::Blank | Piece::TabbedBlank | Piece::Comment | Piece::LineEnd => {}
-            Piece::Lexeme(kind) => {
-                let (line, span) = (cut.line, cut.span);
+    let mut before: Option<Piece> = None;
+    while let [piece, more @ ..] = rest {
+        match piece.kind {
+            PieceKind::Blank | PieceKind::TabbedBlank | PieceKind::Comment | PieceKind::LineEnd =>
+                {}
+            PieceKind::Lexeme(kind) => {
+                let (line, span) = (piece.line, piece.span);
                 out.push(Token { kind, line, span })?;
-                before = Some(*cut);
+                before = Some(*piece);
             }
-            Piece::Continuation => {
+            PieceKind::Continuation => {
                 if before.is_none() {
-                    return Err(SyntaxFault::BadToken { line: cut.line });
+                    return Err(SyntaxFault::BadToken { line: piece.line });
                 }
             }
-            Piece::Bad => return Err(SyntaxFault::BadToken { line: cut.line }),
+            PieceKind::Bad => return Err(SyntaxFault::BadToken { line: piece.line }),
         }
         rest = more;
     }
     match before {
-        Some(cut) if depth == 0 => {
-            out.push(empty_token(Kind::Newline, cut.last, cut.span.end))?;
+        Some(piece) if depth == 0 => {
+            out.push(empty_token(Kind::Newline, piece.last, piece.span.end))?;
             Ok(())
         }
         _ => Ok(()),
     }
 }
 
-/// Pushes the tokens of a logical line with those of its indentation; nothing if the line has only blanks and comments.
+/// Pushes the tokens of a logical line with the tokens of its indentation; nothing if the line has only blanks and
+/// comments.
 #[tactic(auto, using(crate::proofs::Layouts::onto_onto))]
 fn push_line(
     out: &mut Vec<Token>,
     opened: &mut Vec<usize>,
-    line: &[Cut],
+    line: &[Piece],
     depth: usize,
 ) -> Result<(), SyntaxFault>
     ensures tokens { Pushes (spec.onto out.old.items (spec.line_tokens opened.old.items (spec.line_of line.now depth)))
@@ -232,14 +235,19 @@ fn finish(
     Ok(())
 }
 
-/// The tokens of pieces; `line` and `at` are those of the end of the text.
-pub fn lay(alloc: Global, cuts: &[Cut], line: usize, at: usize) -> Result<Vec<Token>, SyntaxFault>
-    ensures { spec.Answers (spec.lay line at (0 ∷ []) 0 (spec.lines 0 cuts.now)) result }
+/// The tokens of pieces; `line` and `at` are the line and the place of the end of the text.
+pub fn lay(
+    alloc: Global,
+    pieces: &[Piece],
+    line: usize,
+    at: usize,
+) -> Result<Vec<Token>, SyntaxFault>
+    ensures { spec.Answers (spec.lay line at (0 ∷ []) 0 (spec.lines 0 pieces.now)) result }
 {
     let mut out = Vec::new(alloc);
     let mut opened = Vec::new(alloc);
     opened.push(0)?;
-    let mut rest = cuts;
+    let mut rest = pieces;
     'lines: loop {
         let (size, depth) = line_size(rest);
         let (first, after) = rest.split_at(size);

@@ -2,7 +2,7 @@
 //!
 //! It works in two passes. Each takes time in proportion to the text, and neither copies it:
 //!
-//! - `cut::pieces` cuts the bytes into pieces: names, numbers, strings, signs, blanks, comments, line ends.
+//! - `scan::scan` cuts the bytes into pieces: names, numbers, strings, signs, blanks, comments, line ends.
 //! - `lay::lay` joins the pieces into logical lines, judges their indentation, and returns the tokens, or the first
 //!   fault with its line.
 //!
@@ -16,9 +16,9 @@
 //! exactly its fault; and the spans of the tokens come in order.
 #![tactic(auto)]
 
-pub mod cut;
 mod lay;
-mod run;
+mod prefix;
+pub mod scan;
 pub mod token;
 pub mod value;
 
@@ -38,6 +38,6 @@ pub fn lex(alloc: Global, text: &str) -> Result<Vec<Token>, SyntaxFault>
     ensures order { IfOk result (λ tokens. InOrder 0 tokens.items (length text.now)) }
 {
     let bytes = text.as_bytes();
-    let cuts = cut::pieces(alloc, bytes)?;
-    lay::lay(alloc, &cuts, 1 + cut::line_ends(bytes), bytes.len())
+    let pieces = scan::scan(alloc, bytes)?;
+    lay::lay(alloc, &pieces, 1 + scan::line_ends(bytes), bytes.len())
 }

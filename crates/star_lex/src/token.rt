@@ -114,7 +114,7 @@ pub enum SyntaxFault {
     /// Bytes that begin no token.
     #[error("bad token on line {line}")]
     BadToken { line: usize },
-    /// A line whose indentation has a tab, or is that of no open block.
+    /// A line whose indentation has a tab, or is not the indentation of an open block.
     #[error("bad indentation on line {line}")]
     BadIndent { line: usize },
     /// A line on which the text is nested too deeply.

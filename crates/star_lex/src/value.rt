@@ -4,7 +4,7 @@ ghost use Rattle.std.specs.Prelude.{◌≡◌, ◌+◌, ◌++◌, ◌-◌, ◌<�
 ghost use Rattle.std.specs.List.{prefix_len};
 ghost use Rattle.star_lex.specs.Values as spec;
 
-use crate::run::{Class, begins, is_in, is_line_end, line_end_size, run};
+use crate::prefix::{Class, is_in, is_line_end, line_end_size, prefix_size, starts_with};
 use crate::token::Span;
 use std::alloc::{AllocError, Global};
 
@@ -22,7 +22,7 @@ pub struct Quoting {
 /// The meaning of a part of a string's inside.
 #[derive(Clone, Copy)]
 pub enum EscapeValue {
-    /// No byte, as a backslash and a line end.
+    /// No byte, as for a backslash and a line end.
     Nothing,
     Byte(u8),
     /// A backslash and the byte.
@@ -70,11 +70,11 @@ pub fn int_of(text: &[u8]) -> Option<u64>
     ensures value { result ≡ spec.int_of text.now }
     ensures within { IfSome result (λ n. n < 2 ^ 63) }
 {
-    if begins(text, b"0x") || begins(text, b"0X") {
+    if starts_with(text, b"0x") || starts_with(text, b"0X") {
         digits(16, &text[2..])
-    } else if begins(text, b"0o") || begins(text, b"0O") {
+    } else if starts_with(text, b"0o") || starts_with(text, b"0O") {
         digits(8, &text[2..])
-    } else if begins(text, b"0") {
+    } else if starts_with(text, b"0") {
         if text.len() == 1 { Some(0) } else { None }
     } else {
         digits(10, text)
@@ -98,7 +98,7 @@ pub fn text_at(source: &[u8], span: Span) -> &[u8]
     }
 }
 
-/// The value of an int; 0 for a text that is none.
+/// The value of an int; 0 for a text that is not an int.
 pub fn int_value(text: &[u8]) -> i64
     ensures { result ≡ pos (spec.int_value text.now) }
 {
@@ -110,7 +110,7 @@ pub fn quoting_of(text: &[u8]) -> Option<Quoting>
     ensures value { result ≡ spec.quoting text.now }
     ensures within { IfSome result (λ q. (1 ≤ spec.opening q) × (spec.opening q ≤ length text.now)) }
 {
-    let raw = begins(text, b"r");
+    let raw = starts_with(text, b"r");
     let start = if raw { &text[1..] } else { text };
     let [quote, rest @ ..] = start else {
         return None;
@@ -119,7 +119,7 @@ pub fn quoting_of(text: &[u8]) -> Option<Quoting>
     if quote != b'"' && quote != b'\'' {
         return None;
     }
-    let triple = begins(rest, &[quote, quote]);
+    let triple = starts_with(rest, &[quote, quote]);
     Some(Quoting { raw, quote, triple })
 }
 
@@ -141,13 +141,14 @@ fn quotes_size(quoting: Quoting) -> usize
 }
 
 fn closes(quoting: Quoting, text: &[u8]) -> bool
-    ensures value { result ≡ spec.begins (spec.quotes quoting) text.now }
+    ensures value { result ≡ spec.starts_with (spec.quotes quoting) text.now }
     ensures within { result ≡ true → length (spec.quotes quoting) ≤ length text.now }
 {
     let [first, rest @ ..] = text else {
         return false;
     };
-    *first == quoting.quote && (!quoting.triple || begins(rest, &[quoting.quote, quoting.quote]))
+    *first == quoting.quote
+        && (!quoting.triple || starts_with(rest, &[quoting.quote, quoting.quote]))
 }
 
 fn numbered(base: u32, size: usize, most: u64, text: &[u8]) -> Option<(usize, EscapeValue)>
@@ -187,7 +188,7 @@ fn octal_size(text: &[u8]) -> usize
     ensures within { (result ≤ 3) × (result ≤ length text.now) }
 {
     let most = if text.len() < 3 { text.len() } else { 3 };
-    run(Class::Octal, &text[..most])
+    prefix_size(Class::Octal, &text[..most])
 }
 
 fn escape(text: &[u8]) -> Option<(usize, EscapeValue)>
@@ -313,8 +314,8 @@ fn decoded(alloc: Global, quoting: Quoting, text: &[u8]) -> Result<Vec<u8>, Allo
 }
 
 #[tactic(auto, using(crate::proofs::Parts::decoded_nil))]
-/// The bytes that a string means: its inside with the escapes decoded and each line end read as LF. `text` is that of
-/// a token of kind `Text`; for a text that no string begins, nothing.
+/// The bytes that a string means: its inside with the escapes decoded and each line end read as LF. `text` is the text
+/// of a token of kind `Text`. The answer is empty for a text that no string begins.
 pub fn string_value(alloc: Global, text: &[u8]) -> Result<Vec<u8>, AllocError>
     ensures { IfOk result (λ v. v.items ≡ spec.string_value text.now) }
 {

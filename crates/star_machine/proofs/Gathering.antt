@@ -1,4 +1,4 @@
--- Entries gathered for a new dictionary: the places that their contents tell, and how these follow each put.
+-- Entries gathered for a new dictionary: the places that their contents give, and how these follow each put.
 use Rattle.std.proofs.Common.{◌≡◌, ℕ, nat_eq, Bool, true, false, List, [], ◌∷◌, ◌++◌, map, Option, Some, None, IfSome, position, slice_get, slice_set, if◌then◌else◌, refl, ap, sym, subst, ◌∙◌}
 use Rattle.std.specs.Cmp.Lexicographic.{pointwise}
 use Rattle.std.specs.Option.{option_map}
@@ -24,7 +24,7 @@ use Rattle.star_meaning.specs.Values.{place_in}
 use Rattle.star_meaning.proofs.Stays.{Keeps, Preserved, Stays}
 use Rattle.star_machine.specs.DictBuilder.{Gathering, IsGathered, contents_of}
 
--- the tests of a key against keys are those of its content against theirs
+-- the tests of a key against keys are the tests of its content against their contents
 key_tests : (see : Value → Option Cell) (n : ℕ) (key : Value) (es : List (Value × Value)) → map (λ e. same_key see n key e.0) es ≡ map (same_content (content see n key)) (map (λ e. content see n e.0) es)
 key_tests see n key [] = refl
 key_tests see n key (e ∷ es) = ap (λ (b : Bool). b ∷ map (λ d. same_key see n key d.0) es) (same_keys see n key e.0) ∙ ap (λ (bs : List Bool). same_content (content see n key) (content see n e.0) ∷ bs) (key_tests see n key es)

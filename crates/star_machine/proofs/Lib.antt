@@ -1,7 +1,9 @@
 pub mod Cells
 pub mod Dicts
+pub mod Each
 pub mod Gathering
 pub mod KindCases
+pub mod PairCases
 pub mod Parts
 pub mod Ranges
 pub mod Turns

@@ -17,6 +17,6 @@ pub record Gathering : Type 0 where
   pub entries : List (Value × Value)
   pub contents : Option (List (List Atom))
 
--- Contents at hand are those of the keys, in order, as a store has them.
+-- Contents at hand are the contents of the keys, in order, as a store has them.
 unfoldable pub IsGathered : Setting → Store → Gathering → Type 0
 IsGathered w s g = IfSome g.contents (λ contents. contents_of (look s w.shelf) g.entries ≡ map Some contents)

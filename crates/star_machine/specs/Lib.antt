@@ -3,6 +3,7 @@ pub mod Cuts
 pub mod DictBuilder
 pub mod Refines
 pub mod Kinds
+pub mod Pairs
 pub mod Search
 pub mod Settings
 pub mod Shown

@@ -12,7 +12,7 @@ abbrev pub stop_of : ℕ → StoreFault → EvalError
 stop_of line refused.Memory = Memory
 stop_of line f = Faulted (code_of f) line
 
--- A run that stopped: at this fault with these lines. Where memory ran out nothing is said.
+-- A run that stopped, at this fault with these lines. If memory ran out, nothing is claimed.
 abbrev pub Ends : {A : Type 0} → Outcome A → EvalError → State → Type 0
 Ends o Memory new = Unit {0}
 Ends o (Faulted c line) new = o ≡ Failed (record { code = c; line = line }) new.lines
@@ -21,7 +21,7 @@ abbrev pub Refines : {A : Type 0} → Outcome A → Result A EvalError → State
 Refines o (Ok x) new = o ≡ Done x new
 Refines o (Err e) new = Ends o e new
 
--- The same of a function that answers a reference: the content of the reference is the answer.
+-- The same for a function that answers a reference: the content of the reference is the answer.
 abbrev pub RefinesBy : {A B : Type 0} → (B → A) → Outcome A → Result B EvalError → State → Type 0
 RefinesBy f o (Ok x) new = o ≡ Done (f x) new
 RefinesBy f o (Err e) new = Ends o e new

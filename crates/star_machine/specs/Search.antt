@@ -28,7 +28,7 @@ place_in_row look levels x row = place_among look levels x (row_in (look row))
 unfoldable pub found_place : Setting → ℕ → ℕ → Value → List Value → Action (Option ℕ)
 found_place w levels line x ys = visiting line (λ s. first_place_where (λ y. same (seen w s) levels y x) 0 ys)
 
--- the int so far above a start, if it lies below a stop; and so far below it, if it lies above one
+-- the int at a distance above a start, if it is below a stop; and at a distance below a start, if it is above a stop
 abbrev pub some_above : ℤ → ℤ → ℕ → Option Value
 some_above start stop way = if nat_lt way (int_gap start stop) then Some (value.Int (start +ℤ pos way)) else None
 

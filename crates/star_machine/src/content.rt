@@ -137,7 +137,7 @@ fn range_item(range: Range, at: usize) -> Option<Value>
     None
 }
 
-/// The int so far above a start, if it lies below a stop.
+/// The int at the distance `way` above a start, if it is below a stop.
 #[tactic(auto, using(crate::proofs::Ranges::above_there, crate::proofs::Ranges::above_none))]
 fn int_above(start: i64, stop: i64, way: u128) -> Option<Value>
     ensures { result ≡ some_above start stop way }
@@ -148,7 +148,7 @@ fn int_above(start: i64, stop: i64, way: u128) -> Option<Value>
     None
 }
 
-/// The int so far below a start, if it lies above a stop.
+/// The int at the distance `way` below a start, if it is above a stop.
 #[tactic(auto, using(crate::proofs::Ranges::under_there, crate::proofs::Ranges::under_none))]
 fn int_below(start: i64, stop: i64, way: u128) -> Option<Value>
     ensures { result ≡ some_under start stop way }

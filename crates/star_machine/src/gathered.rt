@@ -1,6 +1,6 @@
 //! `DictBuilder`: the entries of a dictionary that is being made, with an index from 16 entries on.
 //!
-//! It serves `dict(..)`, `|` and a display. If contents cannot be had, the entries are walked.
+//! It serves `dict(..)`, `|` and a display. If contents are not at hand, the entries are walked.
 
 ghost use Rattle.std.specs.Prelude.{◌≡◌, ◌++◌, ◌∷◌, [], None, Some, map, is_some, not, true, if◌then◌else◌, IfOk, IfSome, OnErr, OnOk};
 ghost use Rattle.std.specs.Bool.{OnTrue};
@@ -22,7 +22,7 @@ use std::alloc::{AllocError, Global};
 use std::marker::Model;
 
 /// Among fewer entries a walk is as fast as a look-up.
-const FEW: usize = 16;
+const INDEX_FROM: usize = 16;
 
 /// The contents of keys, in order.
 #[derive(Drop)]
@@ -115,7 +115,7 @@ impl DictBuilder {
         ensures same { result.entries ≡ entries }
         ensures gathered { IsGathered setting.now machine.now.store result }
     {
-        let contents = if entries.len() < FEW || more < FEW {
+        let contents = if entries.len() < INDEX_FROM || more < INDEX_FROM {
             None
         } else {
             contents_of(machine, setting, &entries)
@@ -224,7 +224,7 @@ impl DictBuilder {
         ensures refused { OnErr result (self.new ≡ self.old) }
     {
         self.entries.push(entry.0, entry.1)?;
-        if self.entries.len() == FEW {
+        if self.entries.len() == INDEX_FROM {
             self.contents = contents_of(machine, setting, &self.entries);
             return Ok(());
         }

@@ -130,7 +130,8 @@ impl Machine {
         Ok(())
     }
 
-    /// The value of a slot of a frame of this module, if it has room in the frame's row. None says nothing.
+    /// The value of a slot of a frame of this module, if it has room in the frame's row. `None` does not mean that the
+    /// slot has no value.
     #[inline(always)]
     pub fn near(&self, frame: Value, slot: usize) -> Option<Value>
         ensures { IfSome result (λ v. (shelf : Shelf) → slot_value (look self.now.store shelf frame) slot ≡ Some v) }
@@ -138,7 +139,7 @@ impl Machine {
         self.arena.near(frame, slot)
     }
 
-    /// The cell to which a value leads; `None` for another value than a `Ref`, and if it leads nowhere.
+    /// The cell that a value leads to; `None` for another value than a `Ref`, and if it leads nowhere.
     pub fn read<'a>(&'a self, setting: &'a Setting<'a>, value: Value) -> Option<&'a Cell>
         ensures { option_copied result ≡ seen setting.now self.now value }
     {
@@ -159,7 +160,7 @@ impl Machine {
         }
     }
 
-    /// Of which kind a value is.
+    /// The kind of a value.
     #[inline(always)]
     pub fn kind(&self, setting: &Setting, value: Value) -> Kind
         ensures { result ≡ kind_of (content setting.now self.now value) }
@@ -191,7 +192,7 @@ impl Machine {
         }
     }
 
-    /// A new cell that is not paid for, as the frame of a file is.
+    /// A new cell that is not paid for, such as the frame of a file.
     #[tactic(auto, unfolding(star_meaning::specs::Run::make))]
     pub fn make(&mut self, cell: Cell) -> Result<Value, EvalError>
         requires { length self.old.store.cells + self.old.steps + 1 < 2 ^ 32 }
@@ -516,7 +517,7 @@ impl Machine {
         Ok(Value::Int(count as i64))
     }
 
-    /// An int is wanted: else `BadType`.
+    /// The int that a value is; `BadType` for another value.
     pub fn want_int(&self, setting: &Setting, line: usize, value: Value) -> Result<i64, EvalError>
         ensures { Refines (want_int setting.now line value self.now) result self.now }
     {
@@ -526,7 +527,7 @@ impl Machine {
         }
     }
 
-    /// A bool is wanted: else `BadType`.
+    /// The bool that a value is; `BadType` for another value.
     pub fn want_bool(&self, setting: &Setting, line: usize, value: Value) -> Result<bool, EvalError>
         ensures { Refines (want_bool setting.now line value self.now) result self.now }
     {
@@ -536,7 +537,7 @@ impl Machine {
         }
     }
 
-    /// A string is wanted: else `BadType`.
+    /// Checks that a value is a string. `BadType` for another value.
     pub fn check_text(&self, setting: &Setting, line: usize, value: Value) -> Result<(), EvalError>
         ensures answer { Refines (and_then (want_text setting.now line value self.now) (λ t. give tt)) result self.now }
         ensures text { OnOk result (text_of (content setting.now self.now value)
@@ -546,7 +547,7 @@ impl Machine {
         Ok(())
     }
 
-    /// A string is wanted: else `BadType`.
+    /// The string that a value is; `BadType` for another value.
     pub fn want_text<'a>(
         &'a self,
         setting: &'a Setting<'a>,
@@ -576,7 +577,7 @@ impl Machine {
         Ok(text)
     }
 
-    /// What `str` makes of a value: a string itself, with one visit, else the text.
+    /// The `str` of a value: a string itself, with one visit, else the text.
     #[tactic(auto, unfolding(star_meaning::specs::Values::str))]
     pub fn str(
         &mut self,

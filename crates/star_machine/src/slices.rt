@@ -24,7 +24,7 @@ pub fn bound_of(len: usize, low: i128, high: i128, absent: i128, place: Option<i
     let Some(place) = place else {
         return absent;
     };
-    held(low, high, from_end(len, place))
+    clamped(low, high, from_end(len, place))
 }
 
 /// A place below 0 gets the length added.
@@ -37,8 +37,8 @@ fn from_end(len: usize, place: i64) -> i128
     place as i128
 }
 
-/// A place, held within two others.
-fn held(low: i128, high: i128, place: i128) -> i128
+/// A place, moved to the nearer of two others if it is not between them.
+fn clamped(low: i128, high: i128, place: i128) -> i128
     requires { low ≤ℤ high }
     ensures value { result ≡ int_min high (int_max low place) }
     ensures above { low ≤ℤ result }

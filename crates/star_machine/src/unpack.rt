@@ -1,8 +1,7 @@
 //! Unpacks the arguments of a call of a built-in function or a method: none, one, one or two, and so on.
 //!
 //! The arguments are one type in the code and in the definitions (`Arguments`, `KeywordArgument`). The `Machine`
-//! unpacks them,
-//! since a fault keeps the machine's lines.
+//! unpacks them, since a fault keeps the machine's lines.
 
 ghost use Rattle.std.specs.Prelude.{◌≡◌};
 ghost use Rattle.std.specs.List.{list_all};

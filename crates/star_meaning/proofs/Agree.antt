@@ -1,4 +1,5 @@
--- Actions by places and by names that do the same wherever a chain of frames fits a chain of blocks, and all functions fit.
+-- Actions by places and by names that do the same wherever a chain of frames fits a chain of blocks, and all functions
+-- fit.
 use Rattle.std.proofs.Common.{◌≡◌, ℕ, zero, suc, ◌+◌, ◌<◌, List, [], ◌∷◌, ◌++◌, length, slice_get, replicate, Option, Some, None, Bool, true, false, if◌then◌else◌, refl, ap, sym, ◌∙◌, arith, subst, nat_eq, slice_index_or}
 use Rattle.std.specs.List.{Contains}
 use Rattle.star_store.specs.declared.values.Value.{Value}
@@ -193,7 +194,7 @@ agree_repeat trees w file chain frame f g (suc n) i k = agree_then trees w file 
 
 -- ---- variables
 
--- the facts of a program: its outlines are those of its trees, and the tables are right for each
+-- the facts of a program: its outlines are the outlines of its trees, and the tables are right for each
 pub record Resolved (tables : Tables) (trees : Trees) (w : Setting) : Type 0 where
   pub outlines : w.outlines ≡ outlines trees
   pub files : (file : ℕ) (ss : List Statement) → Stands trees file ss → IsResolved tables w file ss

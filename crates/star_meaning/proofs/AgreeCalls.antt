@@ -1,4 +1,5 @@
--- Calls, by places and by names: the function that is called fits, so its body does the same in its own chain of frames.
+-- Calls, by places and by names: the function that is called fits, so its body does the same in its own chain of
+-- frames.
 use Rattle.std.proofs.Common.{◌≡◌, ℕ, ◌+◌, List, [], ◌∷◌, ◌++◌, length, not, nat_eq, Option, Some, None, refl, ap, subst, Bool, true, false, if◌then◌else◌}
 use Rattle.std.specs.List.{Contains}
 use Rattle.std.specs.Option.{option_and_then}

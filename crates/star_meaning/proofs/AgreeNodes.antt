@@ -37,7 +37,7 @@ use Rattle.star_meaning.proofs.UsesOf.{Sub, by, every, first, left, of_target, p
 use Rattle.star_meaning.proofs.Quiet as quiet
 use Rattle.star_meaning.proofs.Keeps.{kept_by}
 use Rattle.star_meaning.proofs.KeepsValues.{respects-is_true, keeps-new_dict, respects-new_list, respects-new_text, respects-new_tuple, respects-take_item}
-use Rattle.star_meaning.proofs.KeepsOperators.{respects-compared, keeps-operate, respects-prefix}
+use Rattle.star_meaning.proofs.KeepsOperators.{respects-comparison, keeps-operate, respects-prefix}
 use Rattle.star_meaning.proofs.KeepsSubscript.{respects-index, respects-set_index, respects-slice}
 use Rattle.star_meaning.proofs.KeepsMethods.{respects-attribute}
 use Rattle.star_meaning.proofs.KeepsEntries.{keeps-augmented, keeps-fresh_entries}
@@ -53,7 +53,7 @@ agree-node tables trees w m n p ss chain h levels (tree.ListComprehension at e c
 agree-node tables trees w m n p ss chain h levels (tree.DictComprehension at e cs) k = agree-dict_comprehension tables trees w m n p ss chain h levels at.token e cs (left _ _ (uses ss) (k)) (left _ _ (uses ss) (right _ _ (uses ss) (k))) (right _ _ (uses ss) (right _ _ (uses ss) (k)))
 agree-node tables trees w m n p ss chain h levels (tree.Unary op e) k = agree_then trees w p.file chain (Some p.frame) _ _ _ _ (h.parts.expr p e ss chain h.stands (k)) (λ x. agree_kept trees w p.file chain (Some p.frame) _ (kept_by w (respects-prefix w p.line op x)))
 agree-node tables trees w m n p ss chain h levels (tree.Binary op a b) k = agree_then trees w p.file chain (Some p.frame) _ _ _ _ (h.parts.expr p a ss chain h.stands (left _ _ (uses ss) (k))) (λ x. agree_then trees w p.file chain (Some p.frame) _ _ _ _ (h.parts.expr p b ss chain h.stands (right _ _ (uses ss) (k))) (λ y. agree_kept trees w p.file chain (Some p.frame) _ (keeps-operate w levels p.line op x y)))
-agree-node tables trees w m n p ss chain h levels (tree.Compare c a b) k = agree_then trees w p.file chain (Some p.frame) _ _ _ _ (h.parts.expr p a ss chain h.stands (left _ _ (uses ss) (k))) (λ x. agree_then trees w p.file chain (Some p.frame) _ _ _ _ (h.parts.expr p b ss chain h.stands (right _ _ (uses ss) (k))) (λ y. agree_kept trees w p.file chain (Some p.frame) _ (kept_by w (respects-compared w levels p.line c x y))))
+agree-node tables trees w m n p ss chain h levels (tree.Compare c a b) k = agree_then trees w p.file chain (Some p.frame) _ _ _ _ (h.parts.expr p a ss chain h.stands (left _ _ (uses ss) (k))) (λ x. agree_then trees w p.file chain (Some p.frame) _ _ _ _ (h.parts.expr p b ss chain h.stands (right _ _ (uses ss) (k))) (λ y. agree_kept trees w p.file chain (Some p.frame) _ (kept_by w (respects-comparison w levels p.line c x y))))
 agree-node tables trees w m n p ss chain h levels (tree.And a b) k = agree_then trees w p.file chain (Some p.frame) _ _ _ _ (h.parts.expr p a ss chain h.stands (left _ _ (uses ss) (k))) (λ x. agree_then trees w p.file chain (Some p.frame) _ _ _ _ (agree_kept trees w p.file chain (Some p.frame) _ (kept_by w (respects-is_true w x))) (λ t. agree_if trees w p.file chain (Some p.frame) t _ _ _ _ (h.parts.expr p b ss chain h.stands (right _ _ (uses ss) (k))) (agree_give trees w p.file chain (Some p.frame) x)))
 agree-node tables trees w m n p ss chain h levels (tree.Or a b) k = agree_then trees w p.file chain (Some p.frame) _ _ _ _ (h.parts.expr p a ss chain h.stands (left _ _ (uses ss) (k))) (λ x. agree_then trees w p.file chain (Some p.frame) _ _ _ _ (agree_kept trees w p.file chain (Some p.frame) _ (kept_by w (respects-is_true w x))) (λ t. agree_if trees w p.file chain (Some p.frame) t _ _ _ _ (agree_give trees w p.file chain (Some p.frame) x) (h.parts.expr p b ss chain h.stands (right _ _ (uses ss) (k)))))
 agree-node tables trees w m n p ss chain h levels (tree.Conditional c a b) k = agree_then trees w p.file chain (Some p.frame) _ _ _ _ (h.parts.expr p c ss chain h.stands (left _ _ (uses ss) (k))) (λ x. agree_then trees w p.file chain (Some p.frame) _ _ _ _ (agree_kept trees w p.file chain (Some p.frame) _ (kept_by w (respects-is_true w x))) (λ t. agree_if trees w p.file chain (Some p.frame) t _ _ _ _ (h.parts.expr p a ss chain h.stands (left _ _ (uses ss) (right _ _ (uses ss) (k)))) (h.parts.expr p b ss chain h.stands (right _ _ (uses ss) (right _ _ (uses ss) (k))))))

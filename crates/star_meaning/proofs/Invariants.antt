@@ -1,5 +1,5 @@
--- What every invariant of runs has in common: the single actions keep it, and so does an action that is joined of actions
--- which keep it. So what an action is made of shows that it respects every invariant.
+-- The common part of all invariants of runs: the single actions keep them, and so does an action that is joined of
+-- actions which keep them. So the parts of an action show that it respects every invariant.
 use Rattle.std.proofs.Common.{◌≡◌, ℕ, zero, suc, ◌+◌, List, [], ◌∷◌, Option, Some, None, Bool, true, false, if◌then◌else◌, Result, Ok, Err, refl}
 use Rattle.star_store.specs.declared.values.Value.{Value}
 use Rattle.star_store.specs.declared.values.Cell.{Cell}

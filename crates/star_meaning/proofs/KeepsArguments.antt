@@ -1,4 +1,4 @@
--- What respects every invariant of runs: arguments.
+-- Actions that respect every invariant of runs: arguments.
 use Rattle.star_store.specs.declared.values.Value.{Value}
 use Rattle.star_meaning.specs.Program.{Setting}
 use Rattle.std.proofs.Common.{ℕ, List, [], ◌∷◌, Option, Some, None, Bool}

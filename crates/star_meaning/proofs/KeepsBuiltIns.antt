@@ -1,4 +1,4 @@
--- What respects every invariant of runs: built-in functions.
+-- Actions that respect every invariant of runs: built-in functions.
 use Rattle.std.specs.declared.cmp.Ordering.{Ordering}
 use Rattle.star_store.specs.declared.values.Value.{Value}
 use Rattle.star_store.specs.declared.values.Cell.TheVariants as cell

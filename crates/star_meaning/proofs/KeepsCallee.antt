@@ -1,4 +1,4 @@
--- What respects every invariant of runs: callees.
+-- Actions that respect every invariant of runs: callees.
 use Rattle.star_store.specs.declared.values.Value.{Value}
 use Rattle.star_store.specs.declared.values.Cell.TheVariants as cell
 use Rattle.star_store.specs.declared.values.Function.{Function}

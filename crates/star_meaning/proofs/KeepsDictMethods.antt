@@ -1,4 +1,4 @@
--- What respects every invariant of runs: the methods of dictionaries.
+-- Actions that respect every invariant of runs: the methods of dictionaries.
 use Rattle.star_store.specs.declared.values.Value.{Value}
 use Rattle.star_meaning.specs.Program.{Setting}
 use Rattle.star_meaning.specs.declared.given.Arguments.{Arguments}

@@ -13,7 +13,7 @@ use Rattle.star_meaning.specs.Run.{Action}
 use Rattle.star_meaning.specs.Expressions.{defaults_after, defaults, new_function, entry_of, maybe, node}
 use Rattle.star_meaning.proofs.Keeps.{keeps, Keeps, AllKeep, VariablesKeep, kept_by}
 use Rattle.star_meaning.proofs.KeepsValues.{respects-new_text, respects-new_tuple, respects-new_list, keeps-new_dict, respects-is_true}
-use Rattle.star_meaning.proofs.KeepsOperators.{keeps-operate, respects-prefix, respects-compared}
+use Rattle.star_meaning.proofs.KeepsOperators.{keeps-operate, respects-prefix, respects-comparison}
 use Rattle.star_meaning.proofs.KeepsSubscript.{respects-index, respects-slice}
 use Rattle.star_meaning.proofs.KeepsMethods.{respects-attribute}
 use Rattle.star_meaning.proofs.KeepsComprehensions.{keeps-list_comprehension, keeps-dict_comprehension}
@@ -49,7 +49,7 @@ keeps-node vs w levels m p (tree.ListComprehension at e cs) k0 k1 = search (keep
 keeps-node vs w levels m p (tree.DictComprehension at e cs) k0 k1 = search (keeps, keeps-dict_comprehension) depth 14
 keeps-node vs w levels m p (tree.Unary op e) k0 k1 = search (keeps, kept_by w, respects-prefix) depth 14
 keeps-node vs w levels m p (tree.Binary op a b) k0 k1 = search (keeps, keeps-operate) depth 14
-keeps-node vs w levels m p (tree.Compare c a b) k0 k1 = search (keeps, kept_by w, respects-compared) depth 14
+keeps-node vs w levels m p (tree.Compare c a b) k0 k1 = search (keeps, kept_by w, respects-comparison) depth 14
 keeps-node vs w levels m p (tree.And a b) k0 k1 = search (keeps, kept_by w, respects-is_true) depth 14
 keeps-node vs w levels m p (tree.Or a b) k0 k1 = search (keeps, kept_by w, respects-is_true) depth 14
 keeps-node vs w levels m p (tree.Conditional c a b) k0 k1 = search (keeps, kept_by w, respects-is_true) depth 14

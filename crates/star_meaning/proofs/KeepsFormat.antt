@@ -1,4 +1,4 @@
--- What respects every invariant of runs: the method format.
+-- Actions that respect every invariant of runs: the method format.
 use Rattle.star_store.specs.declared.values.Value.{Value}
 use Rattle.star_meaning.specs.Program.{Setting}
 use Rattle.star_meaning.specs.declared.given.Arguments.{Arguments}

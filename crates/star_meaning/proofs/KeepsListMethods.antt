@@ -1,4 +1,4 @@
--- What respects every invariant of runs: the methods of lists.
+-- Actions that respect every invariant of runs: the methods of lists.
 use Rattle.star_store.specs.declared.values.Value.{Value}
 use Rattle.star_meaning.specs.Program.{Setting}
 use Rattle.star_meaning.specs.declared.given.Arguments.{Arguments}

@@ -1,4 +1,4 @@
--- What respects every invariant of runs: methods.
+-- Actions that respect every invariant of runs: methods.
 use Rattle.star_store.specs.declared.values.Value.{Value}
 use Rattle.star_store.specs.declared.names.Method.{Method}
 use Rattle.star_store.specs.declared.names.Method.TheVariants as method

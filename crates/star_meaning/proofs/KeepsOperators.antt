@@ -1,4 +1,4 @@
--- What respects every invariant of runs: operators.
+-- Actions that respect every invariant of runs: operators.
 use Rattle.std.specs.declared.cmp.Ordering.{Ordering}
 use Rattle.star_store.specs.declared.values.Value.{Value}
 use Rattle.star_store.specs.declared.values.Cell.TheVariants as cell
@@ -12,7 +12,7 @@ use Rattle.star_meaning.specs.Program.{Setting}
 use Rattle.star_meaning.specs.Values.{Content, Number, Held}
 use Rattle.std.proofs.Common.{ℕ, List, [], ◌∷◌, Bool, ℤ, pos, negsuc}
 use Rattle.star_meaning.specs.Run.{Action}
-use Rattle.star_meaning.specs.Operators.{add, repeated, multiply, divide, remainder, shift_left, shift_right, union, on_ints, on_others, on_contents, operate, signed, negated, on_one, prefix, list_contains, has, contains, ordered, tested, compared}
+use Rattle.star_meaning.specs.Operators.{add, repeated, multiply, divide, remainder, shift_left, shift_right, union, on_ints, on_others, on_contents, operate, signed, negated, on_one, prefix, list_contains, has, contains, ordered, comparison_holds, comparison}
 use Rattle.star_meaning.proofs.Invariants.{Invariant, Respects, respects}
 use Rattle.star_meaning.proofs.Keeps.{keeps, kept_by, Keeps}
 use Rattle.star_meaning.proofs.KeepsValues.{respects-with_content, respects-want_text, respects-new_int, respects-new_text, respects-new_tuple, respects-new_list, keeps-new_dict, respects-is_true, respects-equal, respects-compare, respects-check_key}
@@ -98,19 +98,19 @@ respects-contains w levels line x y = search (respects, respects-with_content, r
 pub respects-ordered : {w : Setting} {inv : Invariant w} → (f : (Ordering → Bool)) (m : Action Ordering) → Respects inv m → Respects inv (ordered f m)
 respects-ordered f m k0 = search respects depth 14
 
-pub respects-tested : (w : Setting) {inv : Invariant w} (levels : ℕ) (line : ℕ) (a3 : Comparator) (x : Value) (y : Value) → Respects inv (tested w levels line a3 x y)
-respects-tested w levels line comparator.Equal x y = search (respects, respects-equal) depth 14
-respects-tested w levels line comparator.NotEqual x y = search (respects, respects-equal) depth 14
-respects-tested w levels line comparator.Less x y = search (respects, respects-compare, respects-ordered) depth 14
-respects-tested w levels line comparator.Greater x y = search (respects, respects-compare, respects-ordered) depth 14
-respects-tested w levels line comparator.LessEqual x y = search (respects, respects-compare, respects-ordered) depth 14
-respects-tested w levels line comparator.GreaterEqual x y = search (respects, respects-compare, respects-ordered) depth 14
-respects-tested w levels line comparator.In x y = search (respects, respects-contains) depth 14
-respects-tested w levels line comparator.NotIn x y = search (respects, respects-contains) depth 14
+pub respects-comparison_holds : (w : Setting) {inv : Invariant w} (levels : ℕ) (line : ℕ) (a3 : Comparator) (x : Value) (y : Value) → Respects inv (comparison_holds w levels line a3 x y)
+respects-comparison_holds w levels line comparator.Equal x y = search (respects, respects-equal) depth 14
+respects-comparison_holds w levels line comparator.NotEqual x y = search (respects, respects-equal) depth 14
+respects-comparison_holds w levels line comparator.Less x y = search (respects, respects-compare, respects-ordered) depth 14
+respects-comparison_holds w levels line comparator.Greater x y = search (respects, respects-compare, respects-ordered) depth 14
+respects-comparison_holds w levels line comparator.LessEqual x y = search (respects, respects-compare, respects-ordered) depth 14
+respects-comparison_holds w levels line comparator.GreaterEqual x y = search (respects, respects-compare, respects-ordered) depth 14
+respects-comparison_holds w levels line comparator.In x y = search (respects, respects-contains) depth 14
+respects-comparison_holds w levels line comparator.NotIn x y = search (respects, respects-contains) depth 14
 
-pub respects-compared : (w : Setting) {inv : Invariant w} (levels : ℕ) (line : ℕ) (c : Comparator) (x : Value) (y : Value) → Respects inv (compared w levels line c x y)
-unfolding compared
-respects-compared w levels line c x y = search (respects, respects-tested) depth 14
+pub respects-comparison : (w : Setting) {inv : Invariant w} (levels : ℕ) (line : ℕ) (c : Comparator) (x : Value) (y : Value) → Respects inv (comparison w levels line c x y)
+unfolding comparison
+respects-comparison w levels line c x y = search (respects, respects-comparison_holds) depth 14
 
 pub keeps-union : {q : Bool} → (w : Setting) (line : ℕ) (es : List (Value × Value)) (fs : List (Value × Value)) → Keeps q (union w line es fs)
 keeps-union w line es fs = search (keeps, keeps-new_dict) depth 14

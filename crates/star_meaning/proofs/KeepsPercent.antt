@@ -1,4 +1,4 @@
--- What respects every invariant of runs: % on strings.
+-- Actions that respect every invariant of runs: % on strings.
 use Rattle.star_store.specs.declared.values.Value.{Value}
 use Rattle.star_meaning.specs.Program.{Setting}
 use Rattle.star_meaning.specs.Values.{Content}

@@ -1,4 +1,4 @@
--- What respects every invariant of runs: subscripts.
+-- Actions that respect every invariant of runs: subscripts.
 use Rattle.star_store.specs.declared.values.Value.{Value}
 use Rattle.star_store.specs.declared.values.Cell.TheVariants as cell
 use Rattle.star_store.specs.declared.range.Range.{Range}

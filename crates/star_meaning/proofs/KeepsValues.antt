@@ -1,4 +1,4 @@
--- What respects every invariant of runs: values.
+-- Actions that respect every invariant of runs: values.
 use Rattle.star_store.specs.declared.values.Value.{Value}
 use Rattle.star_meaning.specs.Program.{Setting}
 use Rattle.std.proofs.Common.{ℕ, List, Option, Some, None, ℤ, Bool}

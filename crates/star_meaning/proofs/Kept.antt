@@ -1,4 +1,5 @@
--- Every run that ends well keeps its cells and its active definitions, by induction on the levels that may still be opened.
+-- Every run that ends well keeps its cells and its active definitions, by induction on the levels that may still be
+-- opened.
 use Rattle.star_meaning.specs.Variables.{by_names}
 use Rattle.std.proofs.Common.{◌≡◌, subst}
 use Rattle.star_meaning.specs.Run.{State, Outcome, Done}

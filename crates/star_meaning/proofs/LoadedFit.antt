@@ -1,4 +1,5 @@
--- Functions that fit after the run of a module fit before the run of one that loads it: all is seen there that was seen.
+-- Functions that fit after the run of a module fit before the run of one that loads it: all that was seen is seen
+-- there.
 use Rattle.std.proofs.Common.{◌≡◌, ℕ, List, [], ◌∷◌, Option, Some, None, Bool, true, false, if◌then◌else◌, refl, ap, sym, ◌∙◌, arith, nat_eq, slice_get, length}
 use Rattle.std.specs.Option.{option_flatten}
 use Rattle.star_store.specs.declared.values.Value.{Value}
@@ -31,7 +32,7 @@ chain_too u w t s o k file (b ∷ bs) frame h =
 function_too : (trees : Trees) (u w : Setting) (t s : State) → u.outlines ≡ w.outlines → SeenToo u t w s → (f : Function) → FitsFunction trees u t f → FitsFunction trees w s f
 function_too trees u w t s o k f h = record { statements = h.statements; chain = h.chain; stands = h.stands; is_there = h.is_there; fits = chain_too u w t s o k f.file h.chain (Some f.frame) h.fits }
 
--- ---- the functions that a module sees which loads another
+-- ---- the functions that a module sees if it loads another
 
 abbrev pub cells_in : Option Published → List HeapCell
 cells_in None = []

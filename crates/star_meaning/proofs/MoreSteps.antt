@@ -1,4 +1,5 @@
--- A file that does not end for want of steps means the same with more steps, by induction on the levels that may still be opened.
+-- A file that does not end for want of steps means the same with more steps, by induction on the levels that may still
+-- be opened.
 use Rattle.std.proofs.Common.{◌≡◌, ℕ, ◌+◌, List, refl, false}
 use Rattle.star_store.specs.declared.values.Value.{Value}
 use Rattle.star_tree.specs.declared.tree.Statement.{Statement}

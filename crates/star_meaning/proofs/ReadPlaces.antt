@@ -1,4 +1,5 @@
--- A name that is read, or bound, by its place is read and bound as by its name, in every chain of frames that fits the blocks around it.
+-- A name that is read, or bound, by its place is read and bound as by its name, in every chain of frames that fits the
+-- blocks around it.
 use Rattle.std.proofs.Common.{◌≡◌, ◌≤◌, ◌<◌, ℕ, zero, suc, ◌+◌, Bool, true, false, not, ◌&&◌, List, [], ◌∷◌, Option, Some, None, length, refl, ap, sym, ◌∙◌, subst, arith, if◌then◌else◌, nat_eq, ◌||◌, map}
 use Rattle.std.specs.Prelude.{slice_get}
 use Rattle.std.specs.Option.{option_and_then}
@@ -24,7 +25,7 @@ use Rattle.star_meaning.specs.Program.{Setting, names_of, blocks_of, published_o
 use Rattle.star_meaning.specs.Variables.{frame_of, in_frame, bind_at, bind_name, else_in, nearest, keyword_slot, read_name, read_found, outside, outside_prelude, prelude_has, outermost}
 use Rattle.star_meaning.specs.Places.{Tables, SpotsMeanNames, bind_spot, frame_above, own_spot, read_spot, slot_in, joined, at_spot, outer_names, FitsBlock, FitsChain}
 
--- the frame to which a value leads
+-- the frame that a value leads to
 abbrev framed : Setting → State → Option Value → Option Frame
 framed w s frame = option_and_then (λ v. frame_of (seen w s v)) frame
 

@@ -43,7 +43,7 @@ outline_by w trees file o = ap (λ os. option_flatten (slice_get os file)) o ∙
 blocks_by : (w : Setting) (trees : Trees) (file : ℕ) (ss : List Statement) → w.outlines ≡ outlines trees → Stands trees file ss → blocks_of w file ≡ (outline ss).blocks
 blocks_by w trees file ss o h = ap blocks_in (outline_by w trees file o ∙ ap (λ x. option_flatten (option_map (option_map outline) x)) h)
 
--- the names of the prelude's block are those that its file's block binds
+-- the names of the prelude's block are the names that its file's block binds
 keywords_of : (o : Option (Option (List Statement))) → names_in (blocks_in (option_flatten (option_map (option_map outline) o))) 0 ≡ prelude_names (option_flatten o)
 keywords_of None = refl
 keywords_of (Some None) = refl

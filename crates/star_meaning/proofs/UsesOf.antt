@@ -17,7 +17,7 @@ use Rattle.star_scope.proofs.UseForms.{expression_level, of as by_level}
 use Rattle.star_scope.proofs.StatementForms.{form_level, of as by_form, statement_opened}
 use Rattle.star_meaning.proofs.Agree.{Every}
 
--- each of the uses is one of those
+-- each use of the first list is in the second
 pub record Sub (us vs : List Use) : Type 0 where
   pub has : (u : Use) → Contains us u → Contains vs u
 

@@ -1,4 +1,4 @@
--- The arguments of a call: positional and keyword ones, with those of `*` and `**`.
+-- The arguments of a call: positional and keyword ones, with the ones that `*` and `**` add.
 use Rattle.std.specs.Prelude.{ℕ, nat_eq, Bool, false, not, ◌||◌, List, [], ◌∷◌, ◌++◌, length, Option, Some, None, slice_get}
 use Rattle.std.specs.List.{list_any, list_all}
 use Rattle.std.specs.Option.{option_map}

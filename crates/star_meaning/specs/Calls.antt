@@ -64,7 +64,7 @@ callee_of w line _ = fail code.BadType line
 unfoldable pub callee : Setting → ℕ → Value → Action Callee
 callee w line v = with_content w v (callee_of w line)
 
--- a call with these arguments: those of a function are bound, or `args`; then it runs, at a level of its own
+-- a call with these arguments: a function's are bound, or `args`; then it runs, at a level of its own
 abbrev pub called : Setting → ℕ → Semantics → Site → Callee → Arguments → Action Value
 called w levels m p (AFunction f d) g = found code.Args p.line (bound_to d.parameters f.defaults g) >>= m.call p f d
 called w levels m p (ABuiltIn b) g = call_built_in w levels p.line b g

@@ -13,7 +13,7 @@ use Rattle.star_outline.specs.Syntax.{ExpressionForm, ParameterForm, parameter}
 use Rattle.star_meaning.specs.Run.{Action, ◌>>=◌, give, check, each, build, seeing}
 use Rattle.star_meaning.specs.Program.{Setting, Variables}
 use Rattle.star_meaning.specs.Values.{is_true, check_key, new_text, new_tuple, new_list, new_dict, place_in}
-use Rattle.star_meaning.specs.Operators.{operate, prefix, compared, with_entry}
+use Rattle.star_meaning.specs.Operators.{operate, prefix, comparison, with_entry}
 use Rattle.star_meaning.specs.Subscript.{index, slice}
 use Rattle.star_meaning.specs.Methods.{attribute}
 use Rattle.star_meaning.specs.Semantics.{Semantics}
@@ -82,7 +82,7 @@ node vs w levels m p (tree.Binary op a b) = do
 node vs w levels m p (tree.Compare c a b) = do
   x ← m.expr p a
   y ← m.expr p b
-  compared w levels p.line c x y
+  comparison w levels p.line c x y
 node vs w levels m p (tree.And a b) = do
   x ← m.expr p a
   t ← is_true w x

@@ -55,8 +55,8 @@ pub record KeepsCell (a b : HeapCell) : Type 0 where
   pub iterations : b.iterations ≡ a.iterations
   pub held : 0 < iterations_in (Some a) → b.cell ≡ a.cell
 
--- the invariants of a run that ends well: the module, its cells, which only grow in number, the active definitions and
--- the lines printed; steps only fall, and on a cell that is new after the run no iteration is open
+-- The invariants of a run that ends well: the module, its cells, which only grow in number, the active definitions and
+-- the lines printed. Steps only fall, and no iteration is open on a cell that is new after the run.
 pub record Kept (s t : State) : Type 0 where
   pub home : t.store.home ≡ s.store.home
   pub cells : (at : ℕ) (a : HeapCell) → slice_get s.store.cells at ≡ Some a → (b : HeapCell)

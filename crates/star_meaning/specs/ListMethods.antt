@@ -72,7 +72,7 @@ call_index w levels line l g = do
   i ← place_with w levels line l x
   new_int line (pos i)
 
--- insert(i, x): the place is held within 0 and the length
+-- insert(i, x): the place is clamped between 0 and the length
 abbrev pub insert_place : ℕ → ℤ → ℕ
 insert_place n z = unsigned_abs (bound_of n (pos 0) (pos n) (pos 0) (Some z))
 

@@ -29,7 +29,7 @@ abbrev pub times : {A : Type 0} → ℕ → List A → List A
 times zero xs = []
 times (suc n) xs = xs ++ times n xs
 
--- a count below 1 is none
+-- a count below 1 is 0
 abbrev pub count_from : ℤ → ℕ
 count_from (pos n) = n
 count_from (negsuc n) = 0
@@ -150,7 +150,7 @@ first_place t u (suc n) i = if stands_at t u i then Some i else first_place t u 
 abbrev pub place_between : List ℕ → List ℕ → ℕ → ℕ → Option ℕ
 place_between t u a b = first_place t u (b + 1 - (a + length u)) a
 
--- whether an int is one of a range: a whole number of steps after the start, fewer than the range has ints
+-- whether an int is in a range: a whole number of steps after the start, fewer than the range has ints
 abbrev pub is_below : ℤ → ℕ → Bool
 is_below (pos q) n = nat_lt q n
 is_below (negsuc q) n = false
@@ -188,17 +188,17 @@ contains w levels line x y = with_content w y (λ d. has w levels line d x)
 abbrev pub ordered : (Ordering → Bool) → Action Ordering → Action Bool
 ordered f m = m >>= λ o. give (f o)
 
--- the answer of a comparison
-abbrev pub tested : Setting → ℕ → ℕ → Comparator → Value → Value → Action Bool
-tested w levels line comparator.Equal x y = equal w levels line x y
-tested w levels line comparator.NotEqual x y = equal w levels line x y >>= λ b. give (not b)
-tested w levels line comparator.Less x y = ordered is_lt (compare w levels line x y)
-tested w levels line comparator.Greater x y = ordered is_gt (compare w levels line x y)
-tested w levels line comparator.LessEqual x y = ordered (λ o. not (is_gt o)) (compare w levels line x y)
-tested w levels line comparator.GreaterEqual x y = ordered (λ o. not (is_lt o)) (compare w levels line x y)
-tested w levels line comparator.In x y = contains w levels line x y
-tested w levels line comparator.NotIn x y = contains w levels line x y >>= λ b. give (not b)
+-- whether a comparison holds
+abbrev pub comparison_holds : Setting → ℕ → ℕ → Comparator → Value → Value → Action Bool
+comparison_holds w levels line comparator.Equal x y = equal w levels line x y
+comparison_holds w levels line comparator.NotEqual x y = equal w levels line x y >>= λ b. give (not b)
+comparison_holds w levels line comparator.Less x y = ordered is_lt (compare w levels line x y)
+comparison_holds w levels line comparator.Greater x y = ordered is_gt (compare w levels line x y)
+comparison_holds w levels line comparator.LessEqual x y = ordered (λ o. not (is_gt o)) (compare w levels line x y)
+comparison_holds w levels line comparator.GreaterEqual x y = ordered (λ o. not (is_lt o)) (compare w levels line x y)
+comparison_holds w levels line comparator.In x y = contains w levels line x y
+comparison_holds w levels line comparator.NotIn x y = contains w levels line x y >>= λ b. give (not b)
 
 -- x sign y
-unfoldable pub compared : Setting → ℕ → ℕ → Comparator → Value → Value → Action Value
-compared w levels line c x y = tested w levels line c x y >>= λ b. give (value.Bool b)
+unfoldable pub comparison : Setting → ℕ → ℕ → Comparator → Value → Value → Action Value
+comparison w levels line c x y = comparison_holds w levels line c x y >>= λ b. give (value.Bool b)

@@ -28,7 +28,8 @@ pair_of w line x = take_all w line x >>= two_items line
 abbrev pub taken_entries : ℕ → List (Value × Value) → Action (List (Value × Value))
 taken_entries line es = each (λ e. pay line 1 >>= λ _. give e) es
 
--- the pairs of a dictionary are its entries; those of another iterable are its items, which are iterables of two items
+-- the pairs of a dictionary are its entries; the pairs of another iterable are its items, which are iterables of two
+-- items
 abbrev pub pairs_in : Setting → ℕ → Value → ℕ → Content → Action Pairs
 pairs_in w line x n (Held (cell.Dict es)) =
     taken_entries line es >>= λ ps. give (record { are_keys = true; pairs = ps })

@@ -12,7 +12,7 @@ abbrev pub put_in : Content → Value → List Value
 put_in (Held (cell.Tuple xs)) y = xs
 put_in c y = y ∷ []
 
--- the text of one value for a letter: s and r make its two texts, d that of an int
+-- the text of one value for a letter: s and r make its two texts, d the text of an int
 abbrev pub format_letter : Setting → ℕ → ℕ → ℕ → Value → Action (List ℕ)
 format_letter w levels line letter x =
     if nat_eq letter 115 then str w levels line x

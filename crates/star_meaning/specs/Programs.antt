@@ -1,4 +1,4 @@
--- The programs of files, as a run is given them; and that the tables that they give are right.
+-- The programs of files, as a run gets them, and the law that their tables are right.
 use Rattle.std.specs.Prelude.{◌≡◌, ℕ, List, [], ◌∷◌, map, length, Option, Some, None, slice_get}
 use Rattle.std.specs.Option.{option_map, option_flatten}
 use denote.Ref.{Bor}
@@ -21,7 +21,7 @@ pub record PlacedFile : Type 0 where
   pub statements : List Statement
   pub spots : List (Option Spot)
 
--- a program is that of some file: the answer of `resolve` for it
+-- a program is the program of some file: the answer of `resolve` for it
 abbrev pub IsOfFile : Program → Type 0
 IsOfFile p =
     (file : ℕ) × (prelude : Option Prelude) × (ss : List Statement) × (reads : List Read)
@@ -34,7 +34,7 @@ Files = List (Option PlacedFile)
 abbrev pub placed_file : Program → PlacedFile
 placed_file p = record { statements = p.statements.now; spots = p.spots }
 
--- the row of a run's programs, and that each is that of some file
+-- the row of a run's programs; each is the program of some file
 abbrev pub placed_files : List (Option (Bor Program)) → Files
 placed_files programs = map (option_map (λ p. placed_file p.now)) programs
 

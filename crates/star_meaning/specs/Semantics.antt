@@ -20,8 +20,8 @@ pub record Read : Type 0 where
   pub index : Value
   pub old : Value
 
--- the value of an expression; the effect of a statement; the assignment to a target that is not a plain name; the parts
--- of an index target with their old value; and a call of a function with the arguments of its parameters
+-- The value of an expression, the effect of a statement, and the assignment to a target that is not a plain name. Also
+-- the parts of an index target with their old value, and a call of a function with the arguments of its parameters.
 pub record Semantics : Type 0 where
   pub expr : Site → Expression → Action Value
   pub stmt : Site → Statement → Action Flow

@@ -102,7 +102,7 @@ abbrev pub want_part : Setting → ℕ → Option Value → Action (Option ℤ)
 want_part w line None = give None
 want_part w line (Some v) = with_content w v (λ c. found code.BadType line (part_of c))
 
--- a place below 0 gets the length added, and is then held within two bounds; an absent one is at its end
+-- a place below 0 gets the length added, and is then clamped to two bounds; an absent one is at its end
 abbrev pub from_end : ℕ → ℤ → ℤ
 from_end n z = if int_lt z (pos 0) then z +ℤ pos n else z
 

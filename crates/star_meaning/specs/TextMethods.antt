@@ -42,7 +42,7 @@ call_edge w line test t g = do
   _ ← pay_for_bytes line t
   give (value.Bool (list_any (test t) us))
 
--- find(t, [a, [b]]): the ends are those of a slice
+-- find(t, [a, [b]]): the ends are as in a slice
 pub record Search : Type 0 where
   pub what : Value
   pub from : Option Value

@@ -3,7 +3,7 @@ use Rattle.std.specs.Prelude.{ℕ, zero, suc, ◌+◌, ◌-◌, nat_eq, nat_lt, 
 use Rattle.std.specs.List.{list_any, starts_with}
 use Rattle.star_outline.specs.Names.{same_name}
 
--- whether a byte goes on with a character
+-- whether a byte continues a character
 abbrev pub goes_on : ℕ → Bool
 goes_on b = not (nat_lt b 128) && nat_lt b 192
 

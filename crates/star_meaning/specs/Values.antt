@@ -78,7 +78,7 @@ abbrev pub text_of : Content → Option (List ℕ)
 text_of (Held (cell.Text t)) = Some t
 text_of _ = None
 
--- an int, a bool or a string is wanted: else `type`
+-- the int, the bool or the string that a value is, else `type`
 abbrev pub want_int : Setting → ℕ → Value → Action ℤ
 want_int w line v = with_content w v (λ c. found code.BadType line (int_of c))
 

@@ -13,7 +13,7 @@
 //! - `Flow` is how a statement ends: it goes on, returns, breaks or continues.
 //! - `Step` and the others of `story` are the story of a fault for a person. No definition uses them.
 //!
-//! The laws are empty functions in `law`, whose contracts are the statements: lines only grow and steps only fall, more
+//! The laws are empty functions in `law`, whose contracts are the statements. Lines only grow and steps only fall, more
 //! steps change nothing that did not end for want of steps, and a run by spots is the run by names. In their proofs one
 //! record, `Keeps`, has the invariants of every action, and each construct of the language is proved once to keep it.
 //! See `docs/LANGUAGE.md`.

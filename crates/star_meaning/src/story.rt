@@ -1,4 +1,4 @@
-//! The story of a fault, for a person: where the run was, and by which calls it came there.
+//! The story of a fault, for a person: where the run was, and the calls that led there.
 //!
 //! No report rests on it. Steps that found no memory are left out.
 

@@ -27,7 +27,7 @@ bytes_more (f ∷ fs) (None ∷ ks) zero h low = absurd (let no : ⊥ = cc in no
 bytes_more (f ∷ fs) (Some k ∷ ks) zero h low = omega arith
 bytes_more (f ∷ fs) (k ∷ ks) (suc n) h low = bytes_more fs ks n h (omega (arith, low))
 
--- a file for which something is kept is within the row
+-- a file that has a kept result is within the row
 pub has_within : (all : List (Option Kept)) (n : ℕ) → Has all n → n < length all
 has_within [] n h = absurd (let no : ⊥ = cc in no)
 has_within (x ∷ xs) zero h = omega arith

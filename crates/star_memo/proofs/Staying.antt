@@ -41,8 +41,8 @@ closed files others prelude steps all marks are h = λ n m.
       λ k c. one_of (is_marked marks) s.end.loads.items k s.loads c,
     )
 
--- whatever a marked file needs is marked, so all texts that it needs are as they were: in each plan of the files, those
--- of all files that it leads to by loads
+-- Whatever a marked file needs is marked, so all texts that it needs are as they were. In each plan of the files these
+-- are the texts of all files that it leads to by loads.
 pub texts_stay : (files others : List File) (prelude : Option ℕ) (steps : ℕ) (all : List (Option GoodEnd)) (marks : List Bool) → AreOutcomes files prelude steps all → AreStaying files others all marks
     → (plan : Plan) → IsPlanOf files plan → plan.prelude ≡ prelude → plan.steps ≡ steps
     → (k n m : ℕ) → Walk (Loads (loaded plan)) k n m → IsReached plan n → is_marked marks n ≡ true → (is_marked marks m ≡ true) × (text_at files m ≡ text_at others m)
@@ -63,7 +63,7 @@ stays files others prelude steps all marks ordered l p are h n e m k =
       body = bodies_stay (arc_value e.body) files others prelude steps (is_marked marks) ordered s c n m o.body;
     }
 
--- what is left of outcomes stays if the files change so
+-- the outcomes that are left stay right if the files change so
 pub all_stay : (files others : List File) (prelude : Option ℕ) (steps : ℕ) (before after : List (Option GoodEnd)) (marks : List Bool) → IsOrdered files → HaveLabels files others → ((q : ℕ) → prelude ≡ Some q → text_at files q ≡ text_at others q) → AreOutcomes files prelude steps before → AreStaying files others before marks → AreMarkedOf marks before after → AreOutcomes others prelude steps after
 all_stay files others prelude steps before after marks ordered l p are h of = λ n e k.
     let o = of n e k in stays files others prelude steps before marks ordered l p are h n e o.0 o.1

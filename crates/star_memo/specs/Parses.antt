@@ -1,4 +1,4 @@
--- What is kept of parsing texts.
+-- The results that are kept of parsing texts.
 use Rattle.std.specs.Prelude.{◌≡◌, ◌≢◌, ◌+◌, ◌<◌, ℕ, All, List, [], ◌∷◌, Option, Some, None, IfOk, IfSome, IsSome, Result, Ok, Err, Vec, length, slice_index_or}
 use Rattle.std.specs.Arc.{arc_value}
 use Rattle.star_label.specs.Files.{File, label_at, text_at}
@@ -8,7 +8,7 @@ use Rattle.star_memo.specs.declared.parses.Kept.{Kept}
 use Rattle.star_memo.specs.declared.parses.Parse.{Parse}
 use Rattle.star_memo.specs.declared.parses.Parse.TheVariants.{Tree, Fault}
 
--- this is what a text comes to: its tree, or the fault of a text that has none
+-- this is the result of parsing a text: its tree, or its fault if it has no tree
 abbrev pub IsParse : List ℕ → Parse → Type 0
 IsParse text (Tree tree) = Parses text (Ok tree)
 IsParse text (Fault fault) = Parses text (Err fault) × (fault ≢ Memory)
@@ -16,12 +16,12 @@ IsParse text (Fault fault) = Parses text (Err fault) × (fault ≢ Memory)
 abbrev pub IsKept : List ℕ → Option Kept → Type 0
 IsKept text kept = IfSome kept (λ k. IsParse text (arc_value k.parse))
 
--- whatever is kept for a file, by its number, is what its text comes to
+-- whatever is kept for a file, by its number, is the result of parsing its text
 abbrev pub AreKept : List File → List (Option Kept) → Type 0
 AreKept files all =
     (n : ℕ) (d : Option Kept) → n < length all → IsKept (text_at files n) (slice_index_or all n d)
 
--- each of these is what the text of the file with its number comes to
+-- each of these is the result of parsing the text of the file with its number
 abbrev pub AreMade : List File → List (ℕ × Parse) → Type 0
 AreMade files made = All (λ p. IsParse (text_at files p.0) p.1) made
 
@@ -43,7 +43,7 @@ pub record IsSameFile (before : List File) (m : ℕ) (files : List File) (n : �
 abbrev pub IsTouched : List (Option Kept) → ℕ → ℕ → Type 0
 IsTouched all request n = IfSome (slice_index_or all n None) (λ k. k.used ≡ request)
 
--- how many bytes the texts have of which anything is kept
+-- how many bytes the texts have whose results are kept
 abbrev pub kept_bytes : List File → List (Option Kept) → ℕ
 kept_bytes [] all = 0
 kept_bytes (f ∷ fs) [] = 0

@@ -41,7 +41,7 @@ pub(crate) fn first_files(
 }
 
 impl<'s, 't> Parser<'s, 't> {
-    /// The numbers of the files that a file loads whose text came to this.
+    /// The numbers of the files that a file loads, by this result of parsing its text.
     fn loads_of(&self, n: usize, parsed: Parsed<'_>) -> Result<Vec<usize>, AllocError>
         requires { n < length self.now.files.now }
     {

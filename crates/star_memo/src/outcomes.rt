@@ -16,15 +16,15 @@ use std::alloc::{AllocError, Global};
 use std::sync::Wait;
 use std::thread::Threads;
 
-/// The outcomes of files that ended well, by the numbers of the files; none for a file that must run again.
+/// The outcomes of files that ended well, by the numbers of the files. None for a file that must run again.
 #[derive(Drop)]
 pub struct Outcomes {
     pub all: Vec<Option<GoodEnd>>,
     pub terms: Terms,
 }
 
-/// What the outcomes of files depend on, beside their texts: the number of the prelude, and the steps that each file may
-/// take.
+/// The values that the outcomes of files depend on, beside their texts: the number of the prelude, and the steps that
+/// each file may take.
 #[derive(Clone, Copy, Debug, PartialEq, Eq)]
 pub struct Terms {
     pub prelude: Option<usize>,
@@ -120,7 +120,7 @@ impl Outcomes {
         }
     }
 
-    /// The files with outcomes, in an order in which each comes after those that it loads.
+    /// The files with outcomes, ordered so that each comes after those that it loads.
     fn flow(&self, alloc: Global) -> Result<Flow, AllocError> {
         let count = self.all.len();
         let mut graph = Graph::new(alloc, count)?;

@@ -18,7 +18,7 @@ use std::thread::Threads;
 
 /// Below this many, texts that are not parsed yet are parsed by one thread, reached or not. One thread more may parse
 /// for each further group of this many.
-const SHARE: usize = 16;
+const TEXTS_A_THREAD: usize = 16;
 
 /// The result of parsing a text: its tree, or its fault, which is not want of memory.
 #[derive(Drop)]
@@ -34,7 +34,7 @@ pub struct Kept {
     pub used: u64,
 }
 
-/// The results of parsing the texts of files, by the numbers of the files; none for a text that must be parsed again.
+/// The results of parsing the texts of files, by the numbers of the files. None for a text that must be parsed again.
 #[derive(Drop)]
 pub struct Parses {
     pub all: Vec<Option<Kept>>,
@@ -107,7 +107,7 @@ impl Parses {
         }
     }
 
-    /// What is kept for a file that has the label and the text that it had before.
+    /// The kept result for a file that has the label and the text that it had before.
     fn find(&self, before: &Files, files: &Files, n: usize) -> Option<&Kept>
         requires kept { AreKept before.now self.now.all.items }
         requires file { n < length files.now }
@@ -121,7 +121,7 @@ impl Parses {
         None
     }
 
-    /// A copy of what is kept for a file that has the label and the text that it had before; it shares the result. The
+    /// A copy of the entry for a file that has the label and the text that it had before. It shares the result. The
     /// error: an allocation failed.
     fn staying(&self, before: &Files, files: &Files, n: usize) -> Result<Option<Kept>, AllocError>
         requires kept { AreKept before.now self.now.all.items }
@@ -136,8 +136,8 @@ impl Parses {
         }
     }
 
-    /// What stays if files take the place of those before: the result of each text that its label had before. The error:
-    /// an allocation failed.
+    /// The results that stay if files take the place of the files before: the result of each text that its label had
+    /// before. The error: an allocation failed.
     pub fn after(&self, alloc: Global, before: &Files, files: &Files) -> Result<Parses, AllocError>
         requires { AreKept before.now self.now.all.items }
         ensures kept { IfOk result (λ ps. AreKept files.now ps.all.items) }
@@ -255,10 +255,10 @@ impl Parses {
             → Has self.new.all.items n) }
     {
         let missing = self.missing();
-        if missing < SHARE {
+        if missing < TEXTS_A_THREAD {
             return self.parse_rest(alloc, files);
         }
-        let threads = threads.min(missing / SHARE);
+        let threads = threads.min(missing / TEXTS_A_THREAD);
         let first = first_files(alloc, roots, prelude)?;
         let shares = self.reached(rt, alloc, files, first, threads)?;
         self.put_shares(alloc, shares)
@@ -335,8 +335,8 @@ impl Parses {
         bytes
     }
 
-    /// The files for which results are kept, those first that no request has reached for the longest time. The error: an
-    /// allocation failed.
+    /// The files for which results are kept, first those that no request has reached for the longest time. The error:
+    /// an allocation failed.
     fn oldest_first(&self, alloc: Global) -> Result<Vec<(u64, usize)>, AllocError> {
         let mut oldest = Vec::with_capacity(alloc, self.all.len())?;
         for n in 0..self.all.len() {

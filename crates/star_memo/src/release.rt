@@ -7,7 +7,7 @@ use std::thread;
 use std::thread::Threads;
 
 /// Below this, one thread is faster than starting others.
-const MANY: usize = 256;
+const VALUES_FOR_THREADS: usize = 256;
 
 /// Deals values out to some rows, one after another. The error: an allocation failed.
 fn dealt<T: Drop>(alloc: Global, values: Vec<T>, rows: usize) -> Result<Vec<Vec<T>>, AllocError>
@@ -37,7 +37,7 @@ pub fn free<T: Drop + Send, R: Threads + Sync>(
 )
     requires { 1 ≤ threads }
 {
-    if threads == 1 || values.len() < MANY {
+    if threads == 1 || values.len() < VALUES_FOR_THREADS {
         drop(values);
         return;
     }

@@ -47,7 +47,7 @@ none_before (Some t) r h = cc
 none_before None (Some ts) h = refl
 none_before None None h = refl
 
--- one more that is a string, or is none
+-- one more value, which is a string or not
 pub some_more : (w : Setting) (s : State) (x : Value) (xs : List Value) → is_some (text_of (content w s x)) ≡ true → is_some (texts_of w s (x ∷ xs)) ≡ is_some (texts_of w s xs)
 some_more w s x xs h = some_before (text_of (content w s x)) (texts_of w s xs) h
 

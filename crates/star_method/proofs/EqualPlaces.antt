@@ -31,7 +31,7 @@ equal_found : (w : Setting) (levels line : ℕ) (x : Value) (ys : List Value) (s
 unfolding found_place
 equal_found w levels line x ys s = equal_from w levels line x 0 ys s
 
--- the items of a list are those of its row
+-- the items of a list are the items of its row
 pub place_in_list : (w : Setting) (levels line : ℕ) (l x : Value) (s : State) → kind_of (content w s l) ≡ kind.List → equal_place w levels line x 0 (items_of (content w s l)) s ≡ found_place w levels line x (row_in (seen w s l)) s
 place_in_list w levels line l x s h = ap (λ c. equal_place w levels line x 0 (items_of c) s) (is_list (content w s l) h) ∙ ap (λ ys. equal_place w levels line x 0 ys s) (row_seen w s l) ∙ equal_found w levels line x (row_in (seen w s l)) s
 

@@ -1,10 +1,8 @@
 pub mod Choices
 pub mod Cutting
-pub mod Each
 pub mod EqualPlaces
 pub mod Finds
 pub mod Found
 pub mod Joining
 pub mod Letters
 pub mod OneByOne
-pub mod PairCases

@@ -1,4 +1,4 @@
--- Methods of dictionaries that one function of the code does, by what is asked for.
+-- Methods of dictionaries that share one function of the code, by the choice that it is given.
 use Rattle.std.specs.Prelude.{ℕ}
 use Rattle.star_store.specs.declared.values.Value.{Value}
 use Rattle.star_method.specs.declared.dicts.Keyed.{Keyed}

@@ -32,7 +32,7 @@ any_at_edge w line edge text choice = λ s.
     and_then (found code.BadType line (choice s) s)
     (λ us. give (list_any (at_edge edge (bytes_of (content w s text))) us))
 
--- the strings that values are, with another one between them, `type` if one is no string
+-- the strings that values are, with another one between them, `type` if one is not a string
 abbrev pub joined_by : Setting → ℕ → List ℕ → List Value → Action (List ℕ)
 joined_by w line by xs = λ s. and_then (found code.BadType line (texts_of w s xs) s) (λ us. give (joined by us))
 

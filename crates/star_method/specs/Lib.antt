@@ -2,5 +2,4 @@
 pub mod Choices
 pub mod Cuts
 pub mod Ends
-pub mod DictBuilder
 pub mod Sets

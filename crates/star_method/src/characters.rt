@@ -10,14 +10,14 @@ use std::alloc::{AllocError, Global};
 use std::collections::BTreeMap;
 use std::marker::Model;
 
-/// Whether a byte goes on with a character.
+/// Whether a byte continues a character.
 fn goes_on(byte: u8) -> bool
     ensures { result ≡ spec.goes_on byte }
 {
     byte >= 128 && byte < 192
 }
 
-/// How many bytes at the front go on with a character.
+/// How many bytes at the front continue a character.
 #[tactic(auto, using(crate::proofs::OneByOne::all_more))]
 fn inner_bytes(bytes: &[u8]) -> usize
     ensures within { result ≤ length bytes.now }
@@ -92,7 +92,7 @@ fn is_blank(character: &str) -> bool
     }
 }
 
-/// Whether a character is one of a string's.
+/// Whether a character is in a string.
 fn is_in(text: &str, character: &str) -> bool
     ensures { result ≡ spec.is_in text.now character.now }
 {
@@ -118,8 +118,8 @@ impl Set {
     }
 }
 
-/// Where a string or a set has no more bytes than this, going through the set is quicker than making a map of it.
-const FEW: usize = 32;
+/// If a string or a set has no more bytes than this, going through the set is quicker than making a map of it.
+const SET_ABOVE: usize = 32;
 
 /// The characters of a string.
 fn characters_of<'s>(alloc: Global, text: &'s str) -> Result<BTreeMap<&'s str, ()>, AllocError>
@@ -158,7 +158,7 @@ impl<'s> Lookup<'s> {
         ensures { IfOk result (λ lookup. lookup ≡ set.now) }
     {
         match set {
-            Set::Of(text) if bytes > FEW && text.as_str().len() > FEW => {
+            Set::Of(text) if bytes > SET_ABOVE && text.as_str().len() > SET_ABOVE => {
                 let found = Some(characters_of(alloc, text.as_str())?);
                 Ok(Lookup { set, found })
             }

@@ -10,11 +10,11 @@ ghost use Rattle.star_meaning.specs.Subscript.{entries_in};
 ghost use Rattle.star_meaning.specs.Values.{content};
 ghost use Rattle.star_method.specs.Choices.{call_keyed, call_listed};
 
-use crate::call::Call;
-use crate::pairs::{entries_of, update_with};
+use star_machine::call::Call;
 use star_machine::content::Content;
 use star_machine::fault::{EvalError, fault_at};
 use star_machine::machine::Machine;
+use star_machine::pairs::{entries_of, update_with};
 use star_machine::setting::Setting;
 use star_machine::subscript::put_entry;
 use star_meaning::fault::FaultCode;
@@ -91,7 +91,7 @@ fn values_of(alloc: Global, entries: &[(Value, Value)]) -> Result<Vec<Value>, Al
     entries.iter().map(|entry| entry.1).collect(alloc)
 }
 
-/// What a method lists of the entries of a dictionary: the entries, their keys or their values.
+/// The parts of a dictionary's entries that a method lists: the entries, their keys or their values.
 #[derive(Clone, Copy, Debug, PartialEq, Eq)]
 pub enum Listed {
     Items,

@@ -3,22 +3,20 @@
 //! There is a function `call_..` for each method, or for two or three that differ in one step. In the order of its
 //! definition it unpacks the arguments, asks whether the receiver may be written, pays, and does the work.
 //!
-//! - `lists`, `dicts` and `texts` have the methods of a type; `parts` has `split` and `replace`.
-//! - `pairs` has the pairs that `dict` and `update` take, `characters` goes over strings character by character.
+//! - `lists`, `dicts` and `texts` have the methods of a type; `split` has `split` and `replace`.
+//! - `characters` goes over strings character by character.
 //!
 //! Begin at the function of the method that you look for. Which value has which methods is decided in `star_attribute`.
-//! Each function is given a `Call`. `Listed` and `Keyed` say which method is called; the other types are helpers:
-//! `Pairs`, and `Set` and `Lookup` for the characters that `strip` takes off.
+//! Each function is given a `Call`. `Listed`, `Keyed`, `Case` and `Edge` say which of two or three methods is called;
+//! the other types, `Set` and `Lookup`, are for the characters that `strip` takes off.
 //!
 //! The promise of each `call_..` is `Refines` of `star_machine`: it has the result of its definition in `star_meaning`
 //! (`ListMethods`, `DictMethods`, `TextMethods`). `docs/EXTENDING.md` goes through the places that a new method
 //! touches.
 #![tactic(auto)]
 
-pub mod call;
 mod characters;
 pub mod dicts;
 pub mod lists;
-pub mod pairs;
-pub mod parts;
+pub mod split;
 pub mod texts;

@@ -6,7 +6,7 @@ ghost use Rattle.star_meaning.specs.ListMethods as spec;
 ghost use Rattle.star_meaning.specs.Run.{all_of};
 ghost use Rattle.star_meaning.specs.Values.{content};
 
-use crate::call::Call;
+use star_machine::call::Call;
 use star_machine::content::{Content, Kind};
 use star_machine::fault::{EvalError, fault_at};
 use star_machine::machine::Machine;
@@ -137,7 +137,7 @@ pub fn call_index(machine: &mut Machine, list: Value, call: &Call) -> Result<Val
     machine.new_count(call.line, at)
 }
 
-/// A place, counted from the end if it is below 0, held within 0 and a length.
+/// A place, counted from the end if it is below 0, and then clamped between 0 and a length.
 fn insert_place(len: usize, place: i64) -> usize
     ensures { result ≡ spec.insert_place len place }
 {

@@ -17,8 +17,8 @@ ghost use Rattle.star_meaning.specs.Values.{content, text_of};
 ghost use Rattle.star_method.specs.Ends.{any_at_edge, at_edge, bytes_each, each_after, found_between, in_case, joined_by};
 ghost use Rattle.star_method.specs.Sets.{test_of};
 
-use crate::call::Call;
 use crate::characters::{Lookup, Set, without_end, without_front};
+use star_machine::call::Call;
 use star_machine::content::Content;
 use star_machine::fault::{EvalError, fault_at};
 use star_machine::machine::Machine;
@@ -103,7 +103,7 @@ fn one_to_three(
     }
 }
 
-/// An end of a search in `len` bytes: that of a slice, or `absent` if none is given.
+/// An end of a search in `len` bytes: as in a slice, or `absent` if none is given.
 fn end_of(len: usize, absent: usize, place: Option<i64>) -> usize
     requires { absent ≤ len }
     ensures value { result ≡ spec.end_of len (pos absent) place }
@@ -205,8 +205,8 @@ fn are_texts(machine: &Machine, setting: &Setting, values: &[Value]) -> bool
     true
 }
 
-/// Whether a string begins or ends with one of some strings. Of the same value in a row only the first is compared,
-/// since a long tuple may have one long string at each place.
+/// Whether a string begins or ends with one of some strings. If the same value comes several times in a row, only the
+/// first is compared, since a long tuple may have one long string at each place.
 fn one_at_edge(
     machine: &Machine,
     setting: &Setting,

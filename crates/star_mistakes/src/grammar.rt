@@ -17,21 +17,21 @@ use std::alloc::{AllocError, Global};
 pub(crate) struct Miss {
     /// The number of the token that cannot be used.
     pub token: usize,
-    /// What could stand there.
+    /// The part that could be there, in words.
     pub wanted: &'static str,
     /// The number of the bracket that is open there, the innermost one.
     pub open: Option<usize>,
-    /// Whether a comma or a closing bracket is what is missing.
+    /// Whether a comma or a closing bracket is missing.
     pub in_list: bool,
 }
 
-/// What is wanted where a statement could end.
+/// The part that is expected where a statement could end.
 pub(crate) const LINE_END: &str = "the end of the line";
 
 /// How many wants are read for a token, at most.
 const WANTS: usize = 20;
 
-/// What an expression is, as far as it matters for what may stand before `=`.
+/// The shape of an expression, as far as it decides whether the expression may be before `=`.
 #[derive(Clone, Copy)]
 enum Shape {
     Name,
@@ -41,7 +41,7 @@ enum Shape {
     Other,
 }
 
-/// Which brackets parameters or a display stand in.
+/// The brackets around parameters or a display.
 #[derive(Clone, Copy)]
 enum Bracket {
     Paren,
@@ -49,7 +49,7 @@ enum Bracket {
     Brace,
 }
 
-/// What may come at a place among parameters or arguments, by what came before.
+/// The parameters or arguments before a place, as far as they decide which may come next.
 #[derive(Clone, Copy)]
 struct Order {
     /// A default, or an argument by name.
@@ -57,12 +57,12 @@ struct Order {
     has_star: bool,
 }
 
-/// What is to be read of arguments, parameters, targets, clauses and displays.
+/// A part of arguments, parameters, targets, clauses or displays that is still to be read.
 #[derive(Clone, Copy)]
 enum Part {
     Arguments(Order),
     ArgumentsRest(Order),
-    /// What follows the argument after `**`.
+    /// The part after the argument of `**`.
     LastArgument,
     Parameters {
         bracket: Option<Bracket>,
@@ -77,7 +77,7 @@ enum Part {
         from: usize,
     },
     Clauses,
-    /// What follows an item in parentheses.
+    /// The part after an item in parentheses.
     ParenRest {
         so_far: Option<Shape>,
     },
@@ -100,21 +100,21 @@ enum Part {
     },
 }
 
-/// What is to be read.
+/// A part that is still to be read.
 #[derive(Clone, Copy)]
 enum Want {
     /// Statements up to the end of the file.
     File,
     Statement,
-    /// What follows the body of an `if`.
+    /// The part after the body of an `if`.
     Arms,
     Suite,
     /// Statements up to the end of an indented block.
     Block,
     Small,
-    /// What follows a small statement: `;` and another one, or the end of the line.
+    /// The part after a small statement: `;` and another one, or the end of the line.
     LineRest,
-    /// What follows an expression that begins a statement, which stands at this token.
+    /// The part after an expression that begins a statement. The expression begins at this token.
     Assignment {
         from: usize,
     },
@@ -126,24 +126,24 @@ enum Want {
         so_far: Option<Shape>,
     },
     Test,
-    /// What follows an expression: `if`, or nothing.
+    /// The part after an expression: `if`, or nothing.
     Condition,
     Else,
     LambdaBody,
-    /// An operand with the signs before it. `not` may stand before one that begins a comparison.
+    /// An operand with the signs before it. `not` may be before one that begins a comparison.
     Operand {
         begins: bool,
         is_compared: bool,
         is_alone: bool,
     },
-    /// What follows an operand: an operator and another one, or nothing.
+    /// The part after an operand: an operator and another operand, or nothing.
     Operator {
         is_compared: bool,
         is_alone: bool,
     },
-    /// What follows the front of a primary: a name, arguments or an index.
+    /// The part after the front of a primary: a name, arguments or an index.
     Suffix,
-    /// What was read has this shape.
+    /// The expression that was read has this shape.
     Is(Shape),
     Index,
     Slice,
@@ -181,7 +181,7 @@ struct Reader<'a> {
     miss: Option<Miss>,
 }
 
-/// The shape of a row, of which this was read so far and then this.
+/// The shape of a row, from the shape of the items so far and the shape of the last one.
 fn joined(so_far: Option<Shape>, last: Shape) -> Shape {
     match (so_far, last) {
         (Some(Shape::Other), _) | (_, Shape::Other) => Shape::Other,
@@ -261,7 +261,7 @@ impl Bracket {
     }
 }
 
-// What is looked at and taken.
+// Looking at tokens and taking them.
 impl<'a> Reader<'a> {
     fn kind_at(&self, at: usize) -> Kind {
         match self.tokens.get(at) {
@@ -326,7 +326,7 @@ impl<'a> Reader<'a> {
         });
     }
 
-    /// What stands here cannot be used.
+    /// The token here cannot be used.
     fn miss(&mut self, wanted: &'static str) {
         self.miss_at(self.at, wanted, false);
     }
@@ -351,7 +351,7 @@ impl<'a> Reader<'a> {
         found
     }
 
-    /// The bracket that stands here is open from here on.
+    /// The bracket here is open from here on.
     fn begin(&mut self) -> Result<(), AllocError> {
         self.open.push(self.at)?;
         self.skip();
@@ -375,7 +375,7 @@ impl<'a> Reader<'a> {
     }
 }
 
-// The whole.
+// The reading of all parts.
 impl<'a> Reader<'a> {
     fn part(&mut self, part: Part) -> Result<(), AllocError> {
         match part {
@@ -434,7 +434,7 @@ impl<'a> Reader<'a> {
     }
 }
 
-/// The first token that the grammar does not read: none where it reads all of them.
+/// The first token that the grammar does not read; `None` if it reads all of them.
 pub(crate) fn first_miss<'a>(
     alloc: Global,
     text: &'a str,

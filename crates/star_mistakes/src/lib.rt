@@ -1,4 +1,4 @@
-//! The static faults of a file, told to a person: the place of each, its word, and a cure (`docs/EXPLAIN.md`).
+//! The static faults of a file, for a person: the place of each, its word, and a cure (`docs/EXPLAIN.md`).
 //!
 //! The report has only the first fault of a file, with its line. So a text at fault is read once more here, and no run
 //! has to keep more for it than it needs. Begin at `Sources::mistakes` in `statics.rt`.

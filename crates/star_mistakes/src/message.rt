@@ -6,9 +6,9 @@ use std::alloc::{AllocError, Global};
 /// A part of a message.
 #[derive(Clone, Copy)]
 pub enum Part<'a> {
-    /// A text as it stands.
+    /// A text that is used as it is.
     Plain(&'a str),
-    /// A word of a file, as a person is shown it.
+    /// A word of a file, in its form for a message.
     Shown(&'a str),
     Number(usize),
 }

@@ -99,7 +99,7 @@ fn line_of(fault: ScopeFault) -> usize {
     }
 }
 
-/// Whether a token can be the one of a fault, as far as its kind shows.
+/// Whether a token can be the token of a fault, by its kind.
 fn may_stand_at(fault: ScopeFault, kind: Kind) -> bool {
     match fault {
         ScopeFault::BadPlace { .. } => matches!(
@@ -202,8 +202,8 @@ impl<'a> Found<'a> {
 
 // Undefined names.
 impl<'a> Source<'a> {
-    /// Adds the undefined names, each at its first place, and those that blocks inside of the file bind. None are found
-    /// if the file has another fault, too.
+    /// Adds the undefined names, each at its first place, and those that blocks inside of the file bind. No names are
+    /// found if the file has another fault, too.
     fn add_names(self, found: &mut Found<'a>) -> Result<(), AllocError>
         requires { self.file < length self.files.now }
     {
@@ -273,7 +273,7 @@ impl<'a> Source<'a> {
         Ok(None)
     }
 
-    /// The first token on a line that can be the one of a fault, as far as its kind shows.
+    /// The first token on a line that can be the token of a fault, by its kind.
     fn first_at(self, line: usize, fault: ScopeFault) -> Option<usize> {
         for (at, token) in self.tokens.iter().enumerate() {
             if token.line == line && may_stand_at(fault, token.kind) {

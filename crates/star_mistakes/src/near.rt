@@ -5,16 +5,16 @@ use crate::message::{Part, message};
 use std::alloc::{AllocError, Global};
 use strsim::osa_distance;
 
-/// The longest word that a near one is looked for.
+/// A word with more bytes than this has no near name.
 const LONGEST: usize = 80;
 
-/// From how many edits on a name is too far from a word: more than a third of the letters may not differ.
+/// A name with this many edits is too far from a word. One edit is allowed, or one for every three letters.
 fn limit(word: &str) -> usize {
     let letters = word.chars().count();
     if letters < 4 { 2 } else { letters / 3 + 1 }
 }
 
-/// The nearest of some names to a word: the first of those with the fewest edits. None that is too far, and none to a
+/// The nearest of some names to a word: the first of those with the fewest edits. `None` if all are too far, and for a
 /// word of one letter.
 pub fn nearest<'a>(
     alloc: Global,

@@ -3,7 +3,7 @@
 ghost use Rattle.std.specs.Prelude.{◌≡◌};
 
 use star_label::files::Files;
-use star_lex::cut::line_ends;
+use star_lex::scan::line_ends;
 use star_lex::token::Token;
 use std::alloc::{AllocError, Global};
 use unicode_width::UnicodeWidthChar;
@@ -158,7 +158,8 @@ pub fn label_of(files: &Files, file: usize) -> &str {
     }
 }
 
-/// A character as it is shown: a blank for a tab, and a mark of its own for a character that a terminal would obey.
+/// The form of a character in a message: a blank for a tab, and a mark of its own for a character that a terminal would
+/// obey.
 fn visible(c: char) -> char {
     match c {
         '\t' => ' ',
@@ -168,7 +169,7 @@ fn visible(c: char) -> char {
     }
 }
 
-/// Writes a word of a text as it is shown: its first characters.
+/// Writes a word of a text in its form for a message: its first characters.
 pub fn push_shown(all: &mut String, word: &str) -> Result<(), AllocError> {
     for (count, c) in word.chars().enumerate() {
         if count >= WORD {
@@ -179,7 +180,7 @@ pub fn push_shown(all: &mut String, word: &str) -> Result<(), AllocError> {
     Ok(())
 }
 
-/// A word of a text as it is shown.
+/// A word of a text in its form for a message.
 pub fn shown(alloc: Global, word: &str) -> Result<String, AllocError> {
     let mut all = String::new(alloc);
     push_shown(&mut all, word)?;
@@ -226,7 +227,7 @@ pub fn push_column(all: &mut String, files: &Files, mark: Mark) -> Result<(), Al
     write!(all, ":{column}")
 }
 
-/// A part of a line as it is shown: how many columns are before the place and under it.
+/// The part of a line that a message has: its text, and how many columns are before the place and under it.
 #[derive(Drop)]
 struct Window {
     text: String,

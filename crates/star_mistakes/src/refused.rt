@@ -99,7 +99,7 @@ fn file_near(alloc: Global, paths: &[String], wanted: &str) -> Result<Option<usi
     }
 }
 
-/// The file of these two paths: of one of them, else the nearest one.
+/// The file with one of these two paths, else the file with the nearest path.
 fn file_of(
     alloc: Global,
     paths: &[String],
@@ -168,7 +168,7 @@ impl<'a> Spot<'a> {
         }
     }
 
-    /// What is wrong about a statement that begins with this word.
+    /// The end of the message about a misplaced statement that begins with this word.
     fn misplaced_by(self, word: &str) -> &'static str {
         match word {
             "return" => "` stands outside of a function",
@@ -262,7 +262,7 @@ impl<'a> Spot<'a> {
     }
 }
 
-/// The help for a text that is no label.
+/// The help for a text that is not a label.
 const LABEL: &str =
     "a label is \"//folder/folder:file.star\", or \":file.star\" for a file beside this one";
 
@@ -271,7 +271,7 @@ fn meant_label(label: &str) -> [Part<'_>; 3] {
     [Plain("did you mean \""), Plain(label), Plain("\"?")]
 }
 
-/// The mistake that a refusal is; `None` if it has no token.
+/// The mistake for a refusal; `None` if the refusal has no token.
 pub(crate) fn told(
     source: Source,
     names: &[&str],

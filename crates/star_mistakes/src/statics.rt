@@ -54,7 +54,7 @@ fn unread(
     }
 }
 
-/// The mistakes for what was found in a file, without undefined names if some names may not be known.
+/// The mistakes for the faults that were found in a file, without undefined names if some names may not be known.
 fn mistakes_for(source: Source, found: &Found, is_blind: bool) -> Result<Vec<Mistake>, AllocError> {
     let mut all = Vec::new(source.alloc);
     for refusal in &found.faults {

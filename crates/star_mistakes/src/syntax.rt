@@ -17,7 +17,7 @@ const KEYWORDS: &[&str] = &[
     "or", "pass", "return",
 ];
 
-/// The token that does not read, and the tokens around it.
+/// The token that the grammar does not read, and the tokens around it.
 #[derive(Clone, Copy)]
 struct Spot<'a> {
     alloc: Global,
@@ -72,7 +72,7 @@ const OWN_NAMES: &str = "a function binds no names outside of it: return the val
 
 const NO_GENERATORS: &str = "there are no generators: return a list";
 
-/// The help for a name before a token that does not read.
+/// The help for a name before a token that the grammar does not read.
 const NAMES: &[(&'static str, &'static str)] = &[
     ("print", CALL),
     ("exec", CALL),
@@ -157,7 +157,7 @@ fn token_before(tokens: &[Token], at: usize) -> Option<Token> {
     token_at(tokens, at.checked_sub(1)?)
 }
 
-// The parts that are told.
+// The parts of messages.
 impl<'a> Spot<'a> {
     fn word(self) -> &'a str {
         word_of(self.text, &self.token)
@@ -484,7 +484,7 @@ impl<'a> Spot<'a> {
         has_kind(self.before, Kind::Keyword(Keyword::Else)) && self.miss.wanted == "`:`"
     }
 
-    /// The expected token, and the one that was found, with this help.
+    /// The mistake with the expected token, the token that was found, and this help.
     fn expected(self, help: &[Part]) -> Result<Mistake, AllocError> {
         let text = [
             Plain("expected "),
@@ -566,7 +566,7 @@ pub(crate) fn bad_syntax(
     }
 }
 
-/// The token that does not read, with the tokens around it.
+/// The token that the grammar does not read, with the tokens around it.
 fn spot_of<'a>(
     alloc: Global,
     file: usize,

@@ -4,14 +4,14 @@ use crate::message::Part;
 use crate::message::Part::{Number, Plain, Shown};
 use crate::mistake::Mistake;
 use crate::place::{Line, Mark, between};
-use star_lex::cut::{Cut, Piece, pieces};
+use star_lex::scan::{Piece, PieceKind, scan};
 use std::alloc::{AllocError, Global};
 
 const CODE: &str = "bad_token";
 
 const INDENT: &str = "bad_indent";
 
-/// The help for a string with an escape that is none.
+/// The help for a string with a bad escape.
 const ESCAPES: &str =
     "escapes are \\n \\t \\r \\\\ \\' \\\" \\a \\b \\f \\v, \\ooo, \\xhh up to \\x7f, \\uhhhh and \\Uhhhhhhhh; r\"..\" has none";
 
@@ -26,17 +26,17 @@ struct Spot<'a> {
     at: usize,
 }
 
-/// The beginning of the part that fits nothing: the first bad piece, or the first joint of this line, which comes before
-/// all of its tokens.
-fn first_bad(cuts: &[Cut], line: usize) -> Option<usize> {
-    for cut in cuts {
-        let fits_nothing = match cut.piece {
-            Piece::Bad => true,
-            Piece::Continuation => cut.line == line,
+/// The beginning of the part that fits nothing: the first bad piece, or the first continuation of this line, which
+/// comes before all of its tokens.
+fn first_bad(pieces: &[Piece], line: usize) -> Option<usize> {
+    for piece in pieces {
+        let fits_nothing = match piece.kind {
+            PieceKind::Bad => true,
+            PieceKind::Continuation => piece.line == line,
             _ => false,
         };
         if fits_nothing {
-            return Some(cut.span.start);
+            return Some(piece.span.start);
         }
     }
     None
@@ -100,7 +100,7 @@ impl<'a> Spot<'a> {
         between(self.text, front, end)
     }
 
-    /// A string whose quotes end at this byte: it is not closed, or it has an escape that is none.
+    /// A string whose quotes end at this byte: it is not closed, or it has a bad escape.
     fn string(self, quotes: &str) -> Result<Mistake, AllocError> {
         let rest = self.rest();
         let inside = self.inside(quotes);
@@ -125,7 +125,7 @@ impl<'a> Spot<'a> {
         )
     }
 
-    /// A number that is none, or that touches a string.
+    /// A bad number, or a number that touches a string.
     fn number(self) -> Result<Mistake, AllocError> {
         let size = word_size(self.rest());
         let word = self.front(size);
@@ -150,7 +150,7 @@ impl<'a> Spot<'a> {
         )
     }
 
-    /// A sign that is none.
+    /// A character that is not in the language.
     fn sign(self, c: char) -> Result<Mistake, AllocError> {
         let size = c.len_utf8();
         self.told(
@@ -183,8 +183,8 @@ fn of_sign(c: char) -> &'static str {
 
 /// Where the part that fits nothing begins: at this line at the latest.
 fn bad_start(alloc: Global, text: &str, line: usize) -> Result<usize, AllocError> {
-    let cuts = pieces(alloc, text.as_bytes())?;
-    match first_bad(cuts.as_slice(), line) {
+    let pieces = scan(alloc, text.as_bytes())?;
+    match first_bad(pieces.as_slice(), line) {
         Some(at) => Ok(at),
         None => Ok(Line::numbered(text, line).start),
     }

@@ -11,7 +11,7 @@ use denote.Ref.{Bor}
 use Rattle.star_meaning.specs.Module.{by_name, put_by_name}
 use Rattle.star_module.proofs.Stable.{put, sorted, sorted_is}
 
--- whether the name of one comes before that of another
+-- whether the name of one comes before the name of another
 abbrev pub first : {A : Type 0} → Bor (List ℕ) × A → Bor (List ℕ) × A → Bool
 first x y = is_lt (slice_cmp nat_cmp x.0.now y.0.now)
 

@@ -1,4 +1,4 @@
--- The line of the last statement is that of the item at the last place.
+-- The line of the last statement is the line of the item at the last place.
 use Rattle.std.proofs.Common.{◌≡◌, ℕ, zero, suc, ◌+◌, ◌-◌, List, [], ◌∷◌, length, slice_get, Option, Some, None, refl, ap, sym, ◌∙◌, subst, arith}
 use Rattle.star_tree.specs.declared.tree.Statement.{Statement}
 use Rattle.star_outline.specs.Syntax.{position_of}

@@ -37,7 +37,7 @@ fault_is o r code line s lines remains q l h =
     let k : RefinesBy shown o (Err (Faulted code line)) s = subst (λ x. RefinesBy shown o x s) q h in
     subst (λ p. IsOutcome p (outcome.Fault code line lines remains)) (sym k) (refl, l)
 
--- the local meaning that an outcome is
+-- an outcome as the local meaning of a file
 pub meant_is : (w : Setting) (o : run.Outcome Ended) (out : Outcome) → IsOutcome o out → semantics w out ≡ local_of w o
 meant_is w (run.Done e s) (outcome.Good frozen texts lines left) h = λ i. Good (put_up w.home (h.0 i) w.shelf) (h.0 i).globals (h.1 i) (h.2 i)
 meant_is w (run.Done e s) (outcome.Fault code line lines remains) h = absurd h
@@ -61,7 +61,7 @@ pub all_fit : (w : World) (ss : List Statement) (steps : ℕ) → w.setting.outl
     → FitAfter (trees_of w.files) w.setting (run_by_names w.setting steps ss)
 all_fit w ss steps h s r = (named w ss steps h s r).1
 
--- an outcome of the run by places is that of the run by names
+-- an outcome of the run by places is the outcome of the run by names
 pub so_named : (w : World) (ss : List Statement) (steps : ℕ) (r : Result Outcome AllocError) → w.setting.outlines ≡ outlines (trees_of w.files) → Stands (trees_of w.files) w.setting.home ss → AreReady w steps
     → IfOk r (λ out. IsOutcome (run_by_places w steps ss) out) → IfOk r (λ out. IsOutcome (run_by_names w.setting steps ss) out)
 so_named w ss steps (Ok out) h s r o = subst (λ p. IsOutcome p out) (named w ss steps h s r).0 o

@@ -1,4 +1,4 @@
--- Names with values, as the code holds them and as the meaning has them; and which of them are globals.
+-- Names with values, as the code has them and as the meaning has them; and which of them are globals.
 use denote.Ref.{Bor}
 use Rattle.std.specs.Prelude.{ℕ, List, map, Option, Some, None, String, string_bytes, if◌then◌else◌}
 use Rattle.star_store.specs.declared.values.Value.{Value}

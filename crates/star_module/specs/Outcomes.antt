@@ -25,8 +25,8 @@ run_by_names w steps ss = run_file (by_names w) w most_levels ss (start w steps)
 abbrev pub shown : HeldEnded → Ended
 shown e = record { globals = owned e.globals.items; texts = owned e.texts.items }
 
--- an outcome is that of a run: the cells, globals, texts and lines of one that ran to its end, and the steps that are
--- left; or the fault with the lines printed before it
+-- an outcome is the outcome of a run: the cells, globals, texts and lines of a run that came to its end, and the steps
+-- that are left; or the fault with the lines printed before it
 abbrev pub IsOutcome : run.Outcome Ended → Outcome → Type 0
 IsOutcome (run.Done e s) (outcome.Good frozen texts lines left) =
     (frozen ≡ record { cells = s.store.cells; globals = e.globals }) × (owned texts.items ≡ e.texts)

@@ -81,7 +81,7 @@ fn globals_in(
     copied(alloc, found.as_slice())
 }
 
-/// The slots of the frame to which a value leads; `None` for another value.
+/// The slots of the frame that a value leads to; `None` for another value.
 fn slots_at<'w>(machine: &'w Machine, world: &'w World, frame: Value) -> Option<&'w Slots>
     ensures { unwrap_or (option_copied result) [] ≡ slots_of (frame_of (seen world.now.setting machine.now frame)) }
 {

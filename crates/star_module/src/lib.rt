@@ -8,9 +8,9 @@
 //! - `globals` picks the globals: the names that the file's own block binds, without those that it loads, in byte
 //!   order.
 //!
-//! The promise is the contract of `run_body`, in clauses that can be read alone: `places`, the run is the file's
-//! meaning with variables by their spots; `names`, it is its meaning by names, if the file is ready to run (the frames
-//! of its functions fit their blocks); `fit`, after a good run all functions fit, so that the files that load this one
+//! The promise is the contract of `run_body`, in clauses that can be read alone. `places`: the run is the file's
+//! meaning with variables by their spots. `names`: it is its meaning by names, if the file is ready to run (the frames
+//! of its functions fit their blocks). `fit`: after a good run all functions fit, so that the files that load this one
 //! are ready in turn.
 #![tactic(auto)]
 

@@ -180,9 +180,9 @@ fn outcome_of(machine: Machine, ended: Result<Ended, EvalError>) -> Result<Outco
 }
 
 /// Runs the body of a file with `steps` steps: makes its own frame, runs its statements, and takes the texts of its
-/// globals. The program is that of the running file. If the file is ready to run, this is its local meaning, by the
-/// names of variables; after a good run all functions fit. The only error is want of memory. (`docs/LANGUAGE.md`, "The
-/// end of a file".)
+/// globals. The program is the running file's. If the file is ready to run, this is its local meaning, by the names of
+/// variables. After a good run all functions fit. The only error is want of memory. (`docs/LANGUAGE.md`, "The end of a
+/// file".)
 pub fn run_body(
     alloc: Global,
     world: &World,

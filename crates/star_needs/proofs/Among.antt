@@ -107,7 +107,7 @@ one_result_by_needs files others p q is also is_in a n h d =
     let two = same_two others p q also is_in a n h in
     sym (result_by_needs (common is_in p) p n one.0 one.1 d) ∙ result_by_needs (common is_in p) q n two.0 two.1 d
 
--- what agrees wherever all that it needs agrees is the same in both plans
+-- a fact that depends only on the readings and runs that a file needs is the same in both plans
 across : (files others : List File) (p q : Plan) → IsPlanOf files p → IsPlanOf others q → (is_in : ℕ → Bool) → AgreeAmong is_in p q → (n : ℕ) → is_in n ≡ true → (P : Plan → Type 0) → ((r s : Plan) → Agree r s n → AllRunsAgree r s n → P r ↔ P s) → P p ↔ P q
 across files others p q is also is_in a n h P by =
     let one = same_one files p q is is_in a n h in

@@ -25,7 +25,7 @@ use Rattle.star_needs.proofs.Among.{good_over, one_module_by_needs, one_outcome_
 loaded-same : (p q : Plan) (n : ℕ) → read_of p n ≡ read_of q n → loaded p n ≡ loaded q n
 loaded-same p q n e = ap (λ r. map (λ l. l.file) (loads_in r)) e
 
--- to agree goes both ways
+-- agreement goes both ways
 pub among_back : (is_in : ℕ → Bool) (p q : Plan) → AgreeAmong is_in p q → AgreeAmong is_in q p
 among_back is_in p q a = record {
   steps = sym a.steps;

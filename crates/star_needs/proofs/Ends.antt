@@ -1,4 +1,4 @@
--- The end of a file depends on the labels, on the texts of what it needs and on the prelude's text.
+-- The end of a file depends on the labels, on the texts of all that it needs and on the prelude's text.
 use Rattle.std.proofs.Common.{◌≡◌, ℕ, zero, suc, ◌+◌, Bool, true, false, ◌&&◌, List, [], ◌∷◌, arith, length, map, Option, Some, None, refl, ap, sym, subst, ◌∙◌, ◌⊎◌, inl, inr}
 use Rattle.std.specs.Prelude.{Contains, slice_get, is_some}
 use Rattle.std.specs.List.Sorted.{IsStrictlySortedBy}

@@ -96,7 +96,7 @@ result_by_needs p q n a h (suc d) =
     let runs : (ss : List Statement) → tree_in (read_of p n) ≡ Some ss → option_map (ran p n) (all_good (map (result p d) (loaded p n))) ≡ option_map (ran q n) (all_good (map (result q d) (loaded q n))) = λ ss sound. run-same (ran p n) (ran q n) (all_good (map (result p d) (loaded p n))) (λ ms e. ran_same p q n read (h n (0, refl)) ss ms sound (are_good p d (loaded p n) ms e)) ∙ ap (option_map (ran q n)) all in
     then-same (tree_in (read_of p n)) _ _ runs ∙ ap (λ r. option_and_then (λ ss. option_map (ran q n) (all_good (map (result q d) (loaded q n)))) (tree_in r)) read
 
--- all results of a file and of what it needs are the same in two plans
+-- all results of a file and of the files that it needs are the same in two plans
 record Same (p q : Plan) (n : ℕ) : Type 0 where
   reads : (k : ℕ) → LeadsTo (Loads (loaded p)) n k → read_of p k ≡ read_of q k
   results : (k : ℕ) → LeadsTo (Loads (loaded p)) n k → (d : ℕ) → result p d k ≡ result q d k

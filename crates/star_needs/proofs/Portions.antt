@@ -65,7 +65,7 @@ wider part whole is n ss h = stands whole n ss (tree_whole part whole is n ss (s
 same_outline : (part whole : Plan) → IsPartOf part whole → (file : ℕ) (ss : List Statement) → Stands (trees part) file ss → option_flatten (slice_get (outlines (trees whole)) file) ≡ option_flatten (slice_get (outlines (trees part)) file)
 same_outline part whole is file ss h = outlined (trees whole) file ss (wider part whole is file ss h) ∙ sym (outlined (trees part) file ss h)
 
--- ---- what fits in a part fits in the whole
+-- ---- functions that fit in a part fit in the whole
 
 chain_wider : (os : List (Option Outline)) (w : Setting) (s : State) (file : ℕ) → outline_of (with_outlines os w) file ≡ outline_of w file → (chain : List ℕ) (frame : Option Value) → FitsChain w s file chain frame → FitsChain (with_outlines os w) s file chain frame
 chain_wider os w s file e [] frame h = h

@@ -21,7 +21,7 @@ use Rattle.star_meaning.specs.BuiltIns.{call_built_in}
 use Rattle.star_meaning.specs.Expressions.{fresh_entries}
 use Rattle.star_meaning.specs.ListMethods.{extend}
 use Rattle.star_meaning.specs.Methods.{attribute, call_method}
-use Rattle.star_meaning.specs.Operators.{compared, operate, prefix}
+use Rattle.star_meaning.specs.Operators.{comparison, operate, prefix}
 use Rattle.star_meaning.specs.Pairs.{dict_of, pairs_of, put_pairs, update_with}
 use Rattle.star_meaning.specs.Statements.{augment_content, augmented}
 use Rattle.star_meaning.specs.Subscript.{index, put_entry, set_index, slice}
@@ -32,11 +32,11 @@ unfolding given name_key count_of take_item
 same-given os w line ps = refl
 
 pub same-call_built_in : (os : List (Option Outline)) (w : Setting) (levels line : ℕ) (b : BuiltIn) (g : Arguments) → call_built_in (with_outlines os w) levels line b g ≡ call_built_in w levels line b g
-unfolding call_built_in operate prefix compared pairs_of put_pairs dict_of update_with index put_entry set_index slice count_of take_item iterate is_true equal compare check_key repr str guard change extend name_key
+unfolding call_built_in operate prefix comparison pairs_of put_pairs dict_of update_with index put_entry set_index slice count_of take_item iterate is_true equal compare check_key repr str guard change extend name_key
 same-call_built_in os w levels line b g = refl
 
 pub same-call_method : (os : List (Option Outline)) (w : Setting) (levels line : ℕ) (b : Method) (x : Value) (g : Arguments) → call_method (with_outlines os w) levels line b x g ≡ call_method w levels line b x g
-unfolding call_method call_built_in attribute operate prefix compared pairs_of put_pairs dict_of update_with index put_entry set_index slice count_of take_item iterate is_true equal compare check_key repr str guard change extend name_key
+unfolding call_method call_built_in attribute operate prefix comparison pairs_of put_pairs dict_of update_with index put_entry set_index slice count_of take_item iterate is_true equal compare check_key repr str guard change extend name_key
 same-call_method os w levels line b x g = refl
 
 pub same-attribute : (os : List (Option Outline)) (w : Setting) (line : ℕ) (x : Value) (name : List ℕ) → attribute (with_outlines os w) line x name ≡ attribute w line x name
@@ -51,9 +51,9 @@ pub same-prefix : (os : List (Option Outline)) (w : Setting) (line : ℕ) (op : 
 unfolding prefix is_true
 same-prefix os w line op v = refl
 
-pub same-compared : (os : List (Option Outline)) (w : Setting) (levels line : ℕ) (c : Comparator) (x y : Value) → compared (with_outlines os w) levels line c x y ≡ compared w levels line c x y
-unfolding compared equal compare check_key
-same-compared os w levels line c x y = refl
+pub same-comparison : (os : List (Option Outline)) (w : Setting) (levels line : ℕ) (c : Comparator) (x y : Value) → comparison (with_outlines os w) levels line c x y ≡ comparison w levels line c x y
+unfolding comparison equal compare check_key
+same-comparison os w levels line c x y = refl
 
 pub same-index : (os : List (Option Outline)) (w : Setting) (levels line : ℕ) (x i : Value) → index (with_outlines os w) levels line x i ≡ index w levels line x i
 unfolding index check_key

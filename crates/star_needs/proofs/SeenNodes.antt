@@ -38,14 +38,14 @@ use Rattle.star_meaning.proofs.UsesOf.{Sub, by, every, first, left, of_target, p
 use Rattle.star_meaning.proofs.Quiet as quiet
 use Rattle.star_meaning.proofs.Keeps.{kept_by}
 use Rattle.star_meaning.proofs.KeepsValues.{respects-is_true, keeps-new_dict, respects-new_list, respects-new_text, respects-new_tuple, respects-take_item}
-use Rattle.star_meaning.proofs.KeepsOperators.{respects-compared, keeps-operate, respects-prefix}
+use Rattle.star_meaning.proofs.KeepsOperators.{respects-comparison, keeps-operate, respects-prefix}
 use Rattle.star_meaning.proofs.KeepsSubscript.{respects-index, respects-set_index, respects-slice}
 use Rattle.star_meaning.proofs.KeepsMethods.{respects-attribute}
 use Rattle.star_meaning.proofs.KeepsEntries.{keeps-augmented, keeps-fresh_entries}
 use Rattle.star_meaning.proofs.AgreeNodes.{loaded_each}
 use Rattle.star_needs.proofs.Outlines.{with_outlines}
 use Rattle.star_needs.proofs.Sight.{Sight, alike, alike_quiet, see_read}
-use Rattle.star_needs.proofs.Same.{same-attribute, same-augmented, same-compared, same-fresh_entries, same-index, same-is_true, same-iterate, same-operate, same-prefix, same-set_index, same-slice, same-take_item}
+use Rattle.star_needs.proofs.Same.{same-attribute, same-augmented, same-comparison, same-fresh_entries, same-index, same-is_true, same-iterate, same-operate, same-prefix, same-set_index, same-slice, same-take_item}
 
 pub agree-node : (tables : Tables) (trees : Trees) (w : Setting) (sight : Sight trees w) (m n : Semantics) (p : Site) (ss : List Statement) (chain : List ℕ) → Scene tables trees w m n p ss chain → (levels : ℕ) (x : ExpressionForm) → Sub (expression_level x chain) (uses ss) → Agree trees w p.file chain (Some p.frame) (node (by_places tables (with_outlines sight.outlines w)) (with_outlines sight.outlines w) levels m p x) (node (by_names w) w levels n p x)
 agree-node tables trees w sight m n p ss chain h levels (tree.Expression-F.Expression::Name x) k = see_read tables trees w sight h.known.resolved p x ss chain h.stands (first _ _ (uses ss) k)
@@ -58,7 +58,7 @@ agree-node tables trees w sight m n p ss chain h levels (tree.ListComprehension 
 agree-node tables trees w sight m n p ss chain h levels (tree.DictComprehension at e cs) k = agree-dict_comprehension tables trees w sight m n p ss chain h levels at.token e cs (left _ _ (uses ss) (k)) (left _ _ (uses ss) (right _ _ (uses ss) (k))) (right _ _ (uses ss) (right _ _ (uses ss) (k)))
 agree-node tables trees w sight m n p ss chain h levels (tree.Unary op e) k = agree_then trees w p.file chain (Some p.frame) _ _ _ _ (h.parts.expr p e ss chain h.stands (k)) (λ x. alike trees w p.file chain (Some p.frame) _ _ (same-prefix sight.outlines w p.line op x) (kept_by w (respects-prefix w p.line op x)))
 agree-node tables trees w sight m n p ss chain h levels (tree.Binary op a b) k = agree_then trees w p.file chain (Some p.frame) _ _ _ _ (h.parts.expr p a ss chain h.stands (left _ _ (uses ss) (k))) (λ x. agree_then trees w p.file chain (Some p.frame) _ _ _ _ (h.parts.expr p b ss chain h.stands (right _ _ (uses ss) (k))) (λ y. alike trees w p.file chain (Some p.frame) _ _ (same-operate sight.outlines w levels p.line op x y) (keeps-operate w levels p.line op x y)))
-agree-node tables trees w sight m n p ss chain h levels (tree.Compare c a b) k = agree_then trees w p.file chain (Some p.frame) _ _ _ _ (h.parts.expr p a ss chain h.stands (left _ _ (uses ss) (k))) (λ x. agree_then trees w p.file chain (Some p.frame) _ _ _ _ (h.parts.expr p b ss chain h.stands (right _ _ (uses ss) (k))) (λ y. alike trees w p.file chain (Some p.frame) _ _ (same-compared sight.outlines w levels p.line c x y) (kept_by w (respects-compared w levels p.line c x y))))
+agree-node tables trees w sight m n p ss chain h levels (tree.Compare c a b) k = agree_then trees w p.file chain (Some p.frame) _ _ _ _ (h.parts.expr p a ss chain h.stands (left _ _ (uses ss) (k))) (λ x. agree_then trees w p.file chain (Some p.frame) _ _ _ _ (h.parts.expr p b ss chain h.stands (right _ _ (uses ss) (k))) (λ y. alike trees w p.file chain (Some p.frame) _ _ (same-comparison sight.outlines w levels p.line c x y) (kept_by w (respects-comparison w levels p.line c x y))))
 agree-node tables trees w sight m n p ss chain h levels (tree.And a b) k = agree_then trees w p.file chain (Some p.frame) _ _ _ _ (h.parts.expr p a ss chain h.stands (left _ _ (uses ss) (k))) (λ x. agree_then trees w p.file chain (Some p.frame) _ _ _ _ (alike trees w p.file chain (Some p.frame) _ _ (same-is_true sight.outlines w x) (kept_by w (respects-is_true w x))) (λ t. agree_if trees w p.file chain (Some p.frame) t _ _ _ _ (h.parts.expr p b ss chain h.stands (right _ _ (uses ss) (k))) (agree_give trees w p.file chain (Some p.frame) x)))
 agree-node tables trees w sight m n p ss chain h levels (tree.Or a b) k = agree_then trees w p.file chain (Some p.frame) _ _ _ _ (h.parts.expr p a ss chain h.stands (left _ _ (uses ss) (k))) (λ x. agree_then trees w p.file chain (Some p.frame) _ _ _ _ (alike trees w p.file chain (Some p.frame) _ _ (same-is_true sight.outlines w x) (kept_by w (respects-is_true w x))) (λ t. agree_if trees w p.file chain (Some p.frame) t _ _ _ _ (agree_give trees w p.file chain (Some p.frame) x) (h.parts.expr p b ss chain h.stands (right _ _ (uses ss) (k)))))
 agree-node tables trees w sight m n p ss chain h levels (tree.Conditional c a b) k = agree_then trees w p.file chain (Some p.frame) _ _ _ _ (h.parts.expr p c ss chain h.stands (left _ _ (uses ss) (k))) (λ x. agree_then trees w p.file chain (Some p.frame) _ _ _ _ (alike trees w p.file chain (Some p.frame) _ _ (same-is_true sight.outlines w x) (kept_by w (respects-is_true w x))) (λ t. agree_if trees w p.file chain (Some p.frame) t _ _ _ _ (h.parts.expr p a ss chain h.stands (left _ _ (uses ss) (right _ _ (uses ss) (k)))) (h.parts.expr p b ss chain h.stands (right _ _ (uses ss) (right _ _ (uses ss) (k))))))

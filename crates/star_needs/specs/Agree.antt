@@ -7,8 +7,8 @@ use Rattle.star_plan.specs.Results.{AreGood}
 use Rattle.star_plan.specs.Runs.{run_by_names}
 use Rattle.star_tree.specs.declared.tree.Statement.{Statement}
 
--- two plans agree on these files, which are all that they need: they have the same steps and the same prelude, each of
--- these files was read and has the same reading in both, and all that it loads is among them
+-- two plans agree on these files, which are all that they need. The plans have the same steps and the same prelude.
+-- Each of these files was read and has the same reading in both, and all that it loads is among them
 pub record AgreeAmong (is_in : ℕ → Bool) (p q : Plan) : Type 0 where
   pub steps : p.steps ≡ q.steps
   pub prelude : p.prelude ≡ q.prelude

@@ -1,4 +1,4 @@
--- The end and the loads of a file whatever the roots, and files with some of the same texts.
+-- The end and the loads of a file for all roots, and files with some of the same texts.
 use Rattle.std.specs.Prelude.{◌≡◌, ℕ, Bool, true, List, map, Option, Some, Contains}
 use Rattle.star_label.specs.Files.{File, text_at}
 use Rattle.star_scope.specs.declared.program.Prelude.{Prelude}
@@ -15,7 +15,7 @@ abbrev pub InEachPlan : List File → Option ℕ → ℕ → ℕ → (Plan → T
 InEachPlan files prelude steps n P =
     (plan : Plan) → IsPlanOf files plan → plan.prelude ≡ prelude → plan.steps ≡ steps → IsReached plan n → P plan
 
--- the module of the file n ends so in each of these plans
+-- the module of the file n has this end in each of these plans
 abbrev pub IsEndUnder : List File → Option ℕ → ℕ → ℕ → Ended → Type 0
 IsEndUnder files prelude steps n e = InEachPlan files prelude steps n (λ plan. IsEnd plan n e)
 
@@ -35,8 +35,8 @@ IsClosed files prelude is_in =
     (n : ℕ) → is_in n ≡ true → (loads : List ℕ) × AreLoadsUnder files prelude n loads
     × ((m : ℕ) → Contains loads m → is_in m ≡ true)
 
--- two rows of files have the same labels, in order, and so the same numbers; and some of them, and the prelude if there
--- is one, have the same texts in both
+-- two rows of files have the same labels, in order, and so the same numbers. Some of them, and the prelude if there is
+-- one, have the same texts in both
 pub record HaveSame (is_in : ℕ → Bool) (prelude : Option ℕ) (files others : List File) : Type 0 where
   pub labels : map (λ f. f.0) files ≡ map (λ f. f.0) others
   pub texts : (n : ℕ) → is_in n ≡ true → text_at files n ≡ text_at others n

@@ -19,7 +19,7 @@ abbrev pub PartsHaveResults : Type 0
 PartsHaveResults = (files : List File) (part whole : Plan) → IsPlanOf files whole → IsPartOf part whole
     → (n : ℕ) (r : Reading) → read_of part n ≡ Some r → (d : ℕ) → result part d n ≡ result whole d n
 
--- two plans, each of files of its own, agree on all that some files need; then this holds of each of these
+-- if two plans, each of files of its own, agree on all that some files need, this holds of each of these files
 abbrev pub Among : (Plan → Plan → ℕ → Type 0) → Type 0
 Among P =
     (files others : List File) (p q : Plan) → IsPlanOf files p → IsPlanOf others q

@@ -1,5 +1,5 @@
 -- Laws of the ends of files: they depend on the labels, on the texts of all that the files need and on the prelude's
--- text; not on the roots, nor on any other text.
+-- text. They do not depend on the roots, nor on any other text.
 use Rattle.std.specs.Prelude.{◌≡◌, ◌↔◌, ℕ, Bool, true, List, Option}
 use Rattle.star_cache.specs.State.{Loads}
 use Rattle.star_label.specs.Files.{File, IsOrdered}

@@ -1,5 +1,5 @@
-//! Laws of what the outcome of a file depends on: first of plans that agree on all that it needs, then of files, by
-//! their labels and texts.
+//! Laws: the outcome of a file depends only on all that it needs. They are first about plans that agree on this, then
+//! about files, by their labels and texts.
 
 ghost use Rattle.star_needs.specs.Laws.{OneEndByNeeds, OneModuleByNeeds, OneOutcomeByNeeds, OneResultByNeeds};
 ghost use Rattle.star_needs.specs.Laws.{OneRunByNeeds, PartsHaveResults, PartsRun};

@@ -1,7 +1,7 @@
 //! The outcome of a file depends only on what it needs: laws, no code.
 //!
-//! A file needs its loads and all that these need. The run of a file is given the statements of all files of its plan,
-//! so it is a law that it looks at none but its own and those of files whose functions it sees.
+//! A file needs its loads and all that these need. The run of a file is given the statements of all files of its plan.
+//! It is a law that it looks only at its own and at those of files whose functions it sees.
 //!
 //! - `specs/Agree` and `Laws`: two plans that agree on some files, which have among them all that they load, give each
 //!   of these the same run, result, outcome, module and end in the report, whatever their other files are.
@@ -9,7 +9,8 @@
 //!   the labels, the prelude's text and the texts of all that the file needs stay.
 //!
 //! Begin at `specs/Agree.antt` and `specs/Ends.antt`. The proof runs a file by places, with the outlines of all files,
-//! beside its run by names, with those of the part that it needs (`proofs/Seen..`, after `Agree..` of `star_meaning`).
+//! beside its run by names, with the outlines of the part that it needs (`proofs/Seen..`, after `Agree..` of
+//! `star_meaning`).
 #![tactic(auto)]
 
 mod law;

@@ -1,4 +1,4 @@
--- What is known after an action that ends well: keys differ, strings and tuples stay, and something of the answer.
+-- The facts after an action that ends well: keys differ, strings and tuples stay, and the answer has some property.
 use Rattle.std.proofs.Common.{◌≡◌, ℕ, zero, suc, ◌+◌, ◌-◌, List, [], ◌∷◌, ◌++◌, length, slice_get, Option, Some, None, Bool, true, false, if◌then◌else◌, nat_lt, nat_eq, refl, ap, subst, ◌∙◌, arith, Result, Ok, Err}
 use Rattle.star_store.specs.declared.values.Value.{Value}
 use Rattle.star_store.specs.declared.values.Value.TheVariants as value
@@ -31,7 +31,7 @@ abbrev pub After : {A : Type 0} → Setting → State → (State → A → Type 
 After w s P (Done x t) = KeysDiffer w t × Stay (seen w s) (seen w t) × P t x
 After w s P (Failed f lines) = Unit {0}
 
--- nothing of the answer
+-- no property of the answer
 abbrev pub Some_answer : {A : Type 0} → State → A → Type 0
 Some_answer t x = Unit {0}
 
@@ -53,7 +53,7 @@ pub after_then : {A B : Type 0} (w : Setting) (s : State) (P : State → A → T
 after_then w s P Q (Done x t) f h k = moved w s t Q (f x t) h.1 (k x t h.0 h.1 h.2)
 after_then w s P Q (Failed e lines) f h k = tt
 
--- an action of which only this is known
+-- an action without a known property of its answer
 plain_after : {A : Type 0} (w : Setting) (s : State) (o : Outcome A) → Held w o → stays.Preserved s o → After w s Some_answer o
 plain_after w s (Done x t) h k = (h, stays_seen w s t k, tt)
 plain_after w s (Failed f lines) h k = tt
@@ -74,7 +74,7 @@ pub pay_after : (w : Setting) (line n : ℕ) (s : State) → KeysDiffer w s → 
 unfolding pay
 pay_after w line n s h = paid w (nat_lt s.steps n) line n s h
 
--- what was paid changes nothing that is seen
+-- a payment changes nothing that is seen
 paid_same : (w : Setting) (b : Bool) (line n : ℕ) (s : State) (P : (Value → Option Cell) → Type 0) → KeysDiffer w s → P (seen w s) → After {A = Unit {0}} w s (λ t x. P (seen w t)) (if b then fail code.Steps line s else Done tt (record s { steps = s.steps - n }))
 paid_same w true line n s P h p = tt
 paid_same w false line n s P h p = (h, (λ v c e f. e), p)

@@ -1,5 +1,5 @@
 -- In every run that ends well keys differ after it, if they did before.
-use Rattle.std.proofs.Common.{◌≡◌, ◌⊎◌, inl, inr, ℕ, zero, suc, ◌+◌, ◌-◌, List, [], ◌∷◌, Option, Some, None, Bool, true, false, if◌then◌else◌, Result, Ok, Err, nat_lt, refl, ap, sym, subst, ◌∙◌}
+use Rattle.std.proofs.Common.{◌≡◌, ◌⊎◌, inl, inr, ℕ, ◌+◌, ◌-◌, List, [], ◌∷◌, Option, Some, None, Bool, true, false, if◌then◌else◌, nat_lt, refl, ap, sym, subst, ◌∙◌}
 use Rattle.star_store.specs.declared.values.Value.{Value}
 use Rattle.star_store.specs.declared.values.Cell.{Cell}
 use Rattle.star_store.specs.declared.values.Cell.TheVariants as cell
@@ -74,7 +74,7 @@ keeps_check c line b = keeps_if b _ _ (keeps_give {A = Unit {0}} tt) (keeps_fail
 
 -- ---- new cells
 
--- a new cell, where it is no dictionary, or one whose keys differ
+-- a new cell that is not a dictionary, or is one whose keys differ
 pub make_differs : (w : Setting) (c : Cell) (s : State) → KeysDiffer w s → ((es : List (Value × Value)) → c ≡ cell.Dict es → Differ (seen w s) es) → Held w (make c s)
 unfolding make
 make_differs w c s h d = after_step w s (record s { store = made c s.store }) h (stays_seen w s (record s { store = made c s.store }) (made_stays c s)) (λ v es e. by v es (made_look c s.store w.shelf v (cell.Dict es) e))
@@ -174,7 +174,7 @@ pub keeps_deactivate : {w : Setting} → Keeps w deactivate
 unfolding deactivate
 keeps_deactivate = record { holds = λ s h. h }
 
--- ---- what holds only where something else holds before, which depends on the state
+-- ---- actions that keep it only if the state before has a further property
 
 pub record KeepsWhere {A : Type 0} (w : Setting) (P : State → Type 0) (m : Action A) : Type 0 where
   pub holds : (s : State) → KeysDiffer w s → P s → Held w (m s)
@@ -194,7 +194,7 @@ keeps_bind vs k = k.bind
 pub keeps_frame : {w : Setting} (vs : Variables) → VariablesKeep w vs → (file number : ℕ) (parent : Option Value) → Keeps w (vs.frame file number parent)
 keeps_frame vs k = k.frame
 
--- all parts of a program keep it, a call where the names of its arguments differ
+-- all parts of a program keep it, a call if the names of its arguments differ
 pub record AllKeep (w : Setting) (m : Semantics) : Type 0 where
   pub expr : (p : Site) (e : Expression) → Keeps w (m.expr p e)
   pub stmt : (p : Site) (x : Statement) → Keeps w (m.stmt p x)
@@ -220,7 +220,7 @@ keeps_while w line v m k = keeps_then _ _ (keeps_iterate w line v) (λ n. keeps_
 pub keeps_looping : {A : Type 0} (w : Setting) (line : ℕ) (v : Value) (m : ℕ → Action A) → ((n : ℕ) → Keeps w (m n)) → Keeps w (iterate w line v >>= λ n. m n >>= λ x. leave v >>= λ _. give x)
 keeps_looping w line v m k = keeps_then _ _ (keeps_iterate w line v) (λ n. keeps_then _ _ (k n) (λ x. keeps_then _ _ (keeps_leave v) (λ _. keeps_give x)))
 
--- that keys differ is an invariant
+-- it is an invariant that keys differ
 abbrev pub once : (w : Setting) → Invariant w
 once w = record {
   Kept = λ {A} m. Keeps w m;

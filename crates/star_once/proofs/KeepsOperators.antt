@@ -1,4 +1,4 @@
--- Keys differ after every run: binary operators, of which x | y makes a dictionary.
+-- Keys differ after every run: binary operators. `x | y` makes a dictionary.
 use Rattle.star_store.specs.declared.values.Value.{Value}
 use Rattle.star_store.specs.declared.values.Cell.TheVariants as cell
 use Rattle.star_tree.specs.declared.tree.BinaryOperator.{BinaryOperator}
@@ -22,7 +22,7 @@ use Rattle.star_once.proofs.Writes as writes
 use Rattle.star_meaning.proofs.KeepsPercent.{respects-percent}
 use Rattle.star_meaning.proofs.KeepsOperators.{respects-add, respects-multiply, respects-on_ints}
 
--- the entries of a content differ, where it is a dictionary's
+-- the entries of a content differ, if it is that of a dictionary
 EntriesDiffer : Setting → State → Content → Type 0
 EntriesDiffer w s c = (es : List (Value × Value)) → c ≡ Held (cell.Dict es) → Differ (seen w s) es
 

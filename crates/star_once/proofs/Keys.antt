@@ -13,7 +13,7 @@ use Rattle.star_data.specs.Data.{cell_of, text_in}
 use Rattle.star_data.proofs.Parts.{is_text}
 use Rattle.star_once.specs.Keys.{Apart, ApartFrom, Differ, IsFixed, IsThere, LeadsToFixed}
 
--- what holds of a list whether or not an element stands before it
+-- a property of a list, with or without an element before it
 pub with_or_without : {A : Type 0} (P : List A → Type 0) (b : Bool) (x : A) (xs : List A) → P (x ∷ xs) → P xs → P (if b then x ∷ xs else xs)
 with_or_without P true x xs one rest = one
 with_or_without P false x xs one rest = rest

@@ -43,7 +43,7 @@ files_keep_keys w steps statements e t h k = ended w (run_file (by_names w) w mo
 pub different_keys_stand_once : DifferentKeysStandOnce
 different_keys_stand_once w s h v es e = once (seen w s) es (h v es e)
 
--- ---- what a module sees that loads another
+-- ---- the cells that a module sees that loads another
 
 other_number : (b : Bool) (m n : ℕ) → nat_eq m n ≡ b → (m ≡ n → ⊥) → b ≡ false
 other_number true m n e h = absurd (h (equal_numbers m n e))
@@ -80,7 +80,7 @@ loads_keep_keys w steps h v es e =
     let r = h v es e in
     differ_stays (seen r.0 r.1) (seen w (start w steps)) es (λ x c k f. loaded_seen r.0 w r.1 steps r.2 x c k) (r.3 v es r.4)
 
--- ---- what stands on the shelf after a run was seen at its end
+-- ---- a cell that is on the shelf after a run was seen at its end
 
 base-end : (w : Setting) (levels line : ℕ) (frame : Value) → base.Keeps false (end w levels line frame)
 base-end w levels line frame = search (base.keeps, base_module.keeps-global_text) depth 14
@@ -144,7 +144,7 @@ seen_at_end w t globals (value.Bool b) c home free h = absurd (let no : ⊥ = cc
 seen_at_end w t globals (value.Int n) c home free h = absurd (let no : ⊥ = cc in no)
 seen_at_end w t globals (value.Builtin b) c home free h = absurd (let no : ⊥ = cc in no)
 
--- what stands once stands once in less
+-- keys that occur only once do so if fewer cells are seen
 text_too : (look see : Value → Option Cell) → ((v : Value) (c : Cell) → look v ≡ Some c → see v ≡ Some c) → (k : Value) (t : List ℕ) → text_in (cell_of look k) ≡ Some t → text_in (cell_of see k) ≡ Some t
 text_too look see all (value.Ref h a) t e = ap text_in (all (value.Ref h a) (cell.Text t) (is_text (look (value.Ref h a)) t e))
 text_too look see all value.NoneValue t e = absurd (let no : ⊥ = cc in no)

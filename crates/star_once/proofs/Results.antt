@@ -1,4 +1,5 @@
--- Keys differ before the run of each file whose loads are good, by the depth at which they are; so in all that it leaves.
+-- Keys differ before the run of each file whose loads are good, by the depth at which they are good. So they differ in
+-- all that the run leaves.
 use Rattle.std.proofs.Common.{◌≡◌, ℕ, zero, suc, List, map, Option, Some, None, refl, ap, sym, ◌∙◌}
 use Rattle.std.specs.Prelude.{slice_get}
 use Rattle.std.specs.Option.{option_flatten}

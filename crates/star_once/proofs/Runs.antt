@@ -22,7 +22,7 @@ use Rattle.star_once.proofs.KeepsComprehensions.{keeps-dict_comprehension, keeps
 use Rattle.star_once.proofs.KeepsExpressions.{keeps-entry_of, keeps-maybe, keeps-new_function}
 use Rattle.star_meaning.proofs.KeepsMethods.{respects-attribute}
 use Rattle.star_once.proofs.KeepsModule.{keeps-global_text}
-use Rattle.star_meaning.proofs.KeepsOperators.{respects-compared, respects-prefix}
+use Rattle.star_meaning.proofs.KeepsOperators.{respects-comparison, respects-prefix}
 use Rattle.star_once.proofs.KeepsOperators.{keeps-operate}
 use Rattle.star_once.proofs.KeepsStatements.{keeps-statement}
 use Rattle.star_meaning.proofs.KeepsSubscript.{respects-index, respects-slice}
@@ -53,7 +53,7 @@ keeps-node vs w levels m p (tree.ListComprehension at e cs) k0 k1 = search (keep
 keeps-node vs w levels m p (tree.DictComprehension at e cs) k0 k1 = search (keeps, keeps-dict_comprehension) depth 14
 keeps-node vs w levels m p (tree.Unary op e) k0 k1 = search (keeps, once_by, respects-prefix) depth 14
 keeps-node vs w levels m p (tree.Binary op a b) k0 k1 = search (keeps, keeps-operate) depth 14
-keeps-node vs w levels m p (tree.Compare c a b) k0 k1 = search (keeps, once_by, respects-compared) depth 14
+keeps-node vs w levels m p (tree.Compare c a b) k0 k1 = search (keeps, once_by, respects-comparison) depth 14
 keeps-node vs w levels m p (tree.And a b) k0 k1 = search (keeps, once_by, respects-is_true) depth 14
 keeps-node vs w levels m p (tree.Or a b) k0 k1 = search (keeps, once_by, respects-is_true) depth 14
 keeps-node vs w levels m p (tree.Conditional c a b) k0 k1 = search (keeps, once_by, respects-is_true) depth 14

@@ -1,4 +1,4 @@
--- What is seen after a cell is made or changed.
+-- The cells that are seen after one is made or changed.
 use Rattle.std.proofs.Common.{◌≡◌, ◌⊎◌, inl, inr, ℕ, zero, suc, Bool, true, false, List, [], ◌∷◌, ◌++◌, slice_get, Option, Some, None, if◌then◌else◌, refl, ap, sym, subst, ◌∙◌, nat_eq}
 use Rattle.std.specs.Option.{option_map}
 use Rattle.star_store.specs.declared.values.Value.{Value}
@@ -61,7 +61,7 @@ after_step w s t h k each v es e = by (each v es e)
     by (inl old) = differ_stays (seen w s) (seen w t) es k (h v es old)
     by (inr new) = differ_stays (seen w s) (seen w t) es k new
 
--- where all is seen as before
+-- the same if all is seen as before
 pub after_same : (w : Setting) (s t : State) → KeysDiffer w s → ((v : Value) → seen w t v ≡ seen w s v) → KeysDiffer w t
 after_same w s t h same = after_step w s t h (λ v c e f. same v ∙ e) (λ v es e. inl (sym (same v) ∙ e))
 

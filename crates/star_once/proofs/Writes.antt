@@ -21,7 +21,7 @@ use Rattle.star_once.specs.Keys.{Differ, IsThere, KeysDiffer}
 use Rattle.star_once.proofs.Keys.{absent, differ_append, differ_remove, differ_set, is_there}
 use Rattle.star_once.proofs.Stores.{after_step, changed_look, stays_seen}
 
--- what a change makes of entries whose keys differ
+-- the keys of the entries that a change leaves differ
 abbrev DifferIn : (Value → Option Cell) → Result (Option Value × List (Value × Value)) StoreFault → Type 0
 DifferIn look o = (r : Option Value × List (Value × Value)) → o ≡ Ok r → Differ look r.1
 

@@ -1,4 +1,4 @@
--- Laws of what stands only once.
+-- Laws of keys that occur only once.
 use Rattle.std.specs.Prelude.{◌≡◌, ℕ, List, Some, None}
 use Rattle.star_store.specs.declared.values.Value.{Value}
 use Rattle.star_store.specs.declared.values.Cell.TheVariants as cell
@@ -16,24 +16,24 @@ use Rattle.star_data.specs.Data.{on_shelf}
 use Rattle.star_data.specs.Laws.{KeysStandOnce}
 use Rattle.star_once.specs.Keys.{KeysDiffer}
 
--- The law: where keys differ before an expression or a statement that ends well, they differ after it.
+-- The law: if keys differ before an expression or a statement that ends well, they differ after it.
 abbrev pub RunsKeepKeys : Type 0
 RunsKeepKeys = (w : Setting) (levels : ℕ) (p : Site) (s t : State) → KeysDiffer w s
     → ((e : Expression) (v : Value) → (meaning (by_names w) w levels).expr p e s ≡ Done v t → KeysDiffer w t)
     × ((x : Statement) (f : Flow) → (meaning (by_names w) w levels).stmt p x s ≡ Done f t → KeysDiffer w t)
 
--- The law: so it is with the run of a file.
+-- The law: the same holds for the run of a file.
 abbrev pub FilesKeepKeys : Type 0
 FilesKeepKeys = (w : Setting) (steps : ℕ) (statements : List Statement) (e : Ended) (t : State)
     → KeysDiffer w (start w steps) → run_file (by_names w) w most_levels statements (start w steps) ≡ Done e t
     → KeysDiffer w t
 
--- The law: where keys differ, no dictionary has a string twice as a key.
+-- The law: if keys differ, no dictionary has a string twice as a key.
 abbrev pub DifferentKeysStandOnce : Type 0
 DifferentKeysStandOnce = (w : Setting) (s : State) → KeysDiffer w s → KeysStandOnce (seen w s)
 
--- The law: where each dictionary that a module sees before its run was seen by a module that it loaded, after whose run
--- keys differ, there they differ before its run.
+-- The law: if each dictionary that a module sees before its run was seen by a module that it loaded, and keys differ
+-- after the run of that module, they differ before the run of this one.
 abbrev pub LoadsKeepKeys : Type 0
 LoadsKeepKeys = (w : Setting) (steps : ℕ)
     → ((v : Value) (es : List (Value × Value)) → seen w (start w steps) v ≡ Some (cell.Dict es) → (u : Setting)

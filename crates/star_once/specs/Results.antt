@@ -1,4 +1,4 @@
--- Laws of what stands only once in what the files of a plan leave.
+-- Laws of keys that occur only once in all that the files of a plan leave.
 use Rattle.std.specs.Prelude.{◌≡◌, ℕ, List, Some, true}
 use Rattle.serde_json.specs.Data.{Data}
 use Rattle.star_store.specs.declared.values.Value.{Value}
@@ -11,14 +11,14 @@ use Rattle.star_plan.specs.Results.{IsOutcome, Ran}
 use Rattle.star_data.specs.Data.{data_of, on_shelf}
 use Rattle.star_data.specs.Laws.{KeysStandOnce}
 
--- The law: in all that a file of a plan reaches that ended well, itself among it, no dictionary has a string twice as a
--- key.
+-- The law: if a file of a plan ended well, no dictionary in its module or in those that it reaches has a string twice
+-- as a key.
 abbrev pub ResultsKeepKeys : Type 0
 ResultsKeepKeys = (plan : Plan) (n : ℕ) (shelf : Shelf) (globals : List (List ℕ × Value))
     (texts : List (List ℕ × List ℕ)) (lines : List (List ℕ)) → IsOutcome plan n (Ran (Good shelf globals texts lines))
     → KeysStandOnce (on_shelf shelf)
 
--- The law: so two values there of which the language's equality answers true, and which are data, have one JSON.
+-- The law: so two values there that are data, and that the language's equality finds equal, have one JSON.
 abbrev pub EqualResultsAreSame : Type 0
 EqualResultsAreSame = (plan : Plan) (n : ℕ) (shelf : Shelf) (globals : List (List ℕ × Value))
     (texts : List (List ℕ × List ℕ)) (lines : List (List ℕ)) → IsOutcome plan n (Ran (Good shelf globals texts lines))

@@ -1,21 +1,21 @@
-//! Laws of what stands only once in all that a run leaves: keys of dictionaries, and globals.
+//! Laws of the keys of dictionaries and the globals that occur only once in all that a run leaves.
 
 ghost use Rattle.star_once.specs.Names.{GlobalsStandOnce};
 ghost use Rattle.star_once.specs.Results.{EqualResultsAreSame, ResultsKeepKeys};
 ghost use Rattle.star_once.specs.Laws.{DifferentKeysStandOnce, FilesKeepKeys, FrozenKeysStandOnce, LoadsKeepKeys, RunsKeepKeys};
 
-/// Where keys differ before an expression or a statement that ends well, they differ after it: whatever it puts into
+/// If keys differ before an expression or a statement that ends well, they differ after it: whatever it puts into
 /// dictionaries, no key is there twice. (`docs/LANGUAGE.md`, "Equality, order, keys and texts".)
 pub fn runs_keep_keys()
     ensures { RunsKeepKeys }
 {}
 
-/// So it is with the run of a file.
+/// The same holds for the run of a file.
 pub fn files_keep_keys()
     ensures { FilesKeepKeys }
 {}
 
-/// Where keys differ, no dictionary has a string twice as a key.
+/// If keys differ, no dictionary has a string twice as a key.
 pub fn different_keys_stand_once()
     ensures { DifferentKeysStandOnce }
 {}
@@ -30,12 +30,12 @@ pub fn frozen_keys_stand_once()
     ensures { FrozenKeysStandOnce }
 {}
 
-/// In all that a file of a plan reaches that ended well, itself among it, no dictionary has a string twice as a key.
+/// If a file of a plan ended well, no dictionary in its module or in those that it reaches has a string twice as a key.
 pub fn results_keep_keys()
     ensures { ResultsKeepKeys }
 {}
 
-/// So two values there that are equal, and have JSON, have the same. (`docs/REPORT.md`, "Values as JSON".)
+/// So two values there that are equal and have JSON have the same JSON. (`docs/REPORT.md`, "Values as JSON".)
 pub fn equal_results_are_same()
     ensures { EqualResultsAreSame }
 {

@@ -1,11 +1,13 @@
-//! Laws of what stands only once in all that a run leaves: no code.
+//! Laws of keys and globals that occur only once in all that a run leaves: no code.
 //!
-//! A dictionary has no key twice, and a module no global. The definitions of `star_meaning` do not say so: an
-//! assignment looks for the key, and puts an entry at its place or after all others; a display refuses a key that it
-//! has; a call refuses a name that comes twice; a block has each of its names once. The laws say what this comes to:
+//! A dictionary has no key twice, and a module no global. The definitions of `star_meaning` do not say so. An
+//! assignment looks for the key, and puts an entry at its place or after all others. A display refuses a key that it
+//! has, and a call refuses a name that comes twice. A block has each of its names once. The laws state the
+//! consequences:
 //!
 //! - After a run of any file, in its own store and in those that it sees, no dictionary has a string twice as a key. So
-//!   the premise of `star_data::equal_are_same` holds of all that the files of a plan leave: equal values have one JSON.
+//!   the premise of `star_data::equal_are_same` holds of all that the files of a plan leave: equal values have one
+//!   JSON.
 //! - No two globals of a module have the same name.
 //!
 //! Begin at `specs/Keys.antt`, `specs/Laws.antt` and `specs/Results.antt`. The proof is an induction over the whole

@@ -13,7 +13,7 @@ use Rattle.star_store.specs.declared.values.Value.{Value}
 abbrev pub as_range : Span → Range
 as_range s = record { start = s.start; stop = s.stop; step = s.step }
 
--- neither end lies further down than just below the first place
+-- neither end is more than one below the first place
 abbrev pub has_low_ends : Span → Type 0
 has_low_ends s = (neg_ℤ (pos 1) ≤ℤ s.start) × (neg_ℤ (pos 1) ≤ℤ s.stop)
 

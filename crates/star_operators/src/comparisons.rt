@@ -104,7 +104,7 @@ fn has(
     }
 }
 
-/// Whether an int is one of a range.
+/// Whether an int is in a range.
 fn has_int(range: Range, int: Option<i64>) -> bool
     ensures { result ≡ spec.range_has_value range int }
 {
@@ -115,8 +115,8 @@ fn has_int(range: Range, int: Option<i64>) -> bool
 }
 
 /// The answer of a comparison of two values.
-#[tactic(auto, unfolding(star_meaning::specs::Operators::compared))]
-pub fn compared(
+#[tactic(auto, unfolding(star_meaning::specs::Operators::comparison))]
+pub fn comparison(
     machine: &mut Machine,
     setting: &Setting,
     levels: u32,
@@ -125,7 +125,7 @@ pub fn compared(
     x: Value,
     y: Value,
 ) -> Result<Value, EvalError>
-    ensures { Refines (spec.compared setting.now levels line comparator x y machine.old) result machine.new }
+    ensures { Refines (spec.comparison setting.now levels line comparator x y machine.old) result machine.new }
 {
     let answer = match comparator {
         Comparator::Equal => machine.equal(setting, levels, line, x, y)?,
@@ -140,7 +140,7 @@ pub fn compared(
     Ok(Value::Bool(answer))
 }
 
-/// Whether an int is one of a range: a whole number of steps after the start, fewer than the range has ints.
+/// Whether an int is in a range: a whole number of steps after the start, fewer than the range has ints.
 #[tactic(auto, using(crate::proofs::Ranges::has_none))]
 fn range_has(range: Range, int: i64) -> bool
     ensures { result ≡ spec.range_has range int }

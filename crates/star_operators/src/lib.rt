@@ -2,7 +2,7 @@
 //!
 //! - `operators`: `+ - * // % & | ^ << >>` (`operate`) and `+ - ~ not` before an operand (`prefix`). It looks first
 //!   whether both operands are ints, since most are.
-//! - `comparisons`: `== != < > <= >=`, `in` and `not in` (`compared`).
+//! - `comparisons`: `== != < > <= >=`, `in` and `not in` (`comparison`).
 //! - `percent`: `%` on a string.
 //! - `subscript`: `x[i]` (`index`) and `x[i] = v` (`set_index`).
 //! - `slices`: `x[a:b:c]` (`slice`).

@@ -139,7 +139,7 @@ pub fn prefix(
     signed(machine, line, operator, int)
 }
 
-/// The values of one row, and then those of another.
+/// The values of one row, and then the values of another.
 fn joined(alloc: Global, front: &Values, back: &Values) -> Result<Values, AllocError>
     ensures { IfOk result (λ r. r ≡ front.now ++ back.now) }
 {
@@ -149,7 +149,7 @@ fn joined(alloc: Global, front: &Values, back: &Values) -> Result<Values, AllocE
     Ok(Values::new(items))
 }
 
-/// The bytes of one string, and then those of another.
+/// The bytes of one string, and then the bytes of another.
 fn joined_text(alloc: Global, front: &Text, back: &Text) -> Result<Text, AllocError>
     ensures { IfOk result (λ t. t ≡ front.now ++ back.now) }
 {
@@ -299,7 +299,7 @@ fn copied(alloc: Global, entries: &Entries) -> Result<Entries, AllocError>
     Ok(made)
 }
 
-/// The entries of one dictionary, with those of another put in.
+/// The entries of one dictionary, with the entries of another put in.
 fn union_of(
     machine: &Machine,
     setting: &Setting,

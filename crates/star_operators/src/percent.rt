@@ -16,7 +16,7 @@ use star_store::values::{Cell, Value};
 use star_text::Text;
 use std::alloc::AllocError;
 
-/// The text of one value for a letter: `s` and `r` make its two texts, `d` that of an int. `BadValue` for another
+/// The text of one value for a letter: `s` and `r` make its two texts, `d` the text of an int. `BadValue` for another
 /// letter, `BadType` for `d` if the value is not an int.
 fn format_letter(
     machine: &mut Machine,

@@ -246,7 +246,7 @@ fn sliced(
     }
 }
 
-/// That a value has slices: else `BadType`.
+/// Checks that a value has slices: else `BadType`.
 fn check_slices(
     machine: &Machine,
     setting: &Setting,

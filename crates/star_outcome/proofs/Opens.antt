@@ -1,4 +1,4 @@
--- Files whose loads are told.
+-- Files whose loads are answered.
 use Rattle.std.proofs.Common.{◌≡◌, ◌+◌, ◌<◌, ◌≤◌, ◌⊎◌, inl, inr, ℕ, zero, suc, true, false, List, [], ◌∷◌, ◌++◌, map, length, Option, Some, None, refl, ap, sym, ◌∙◌, subst, arith, length-append}
 use denote.Ref.{Bor}
 use Rattle.std.specs.Arc.{arc_value}
@@ -34,7 +34,7 @@ end_bad plan n (Unloaded index line) is ill g = let both : false ≡ true = from
 end_bad plan n (Stopped code line lines left) is ill g = let both : false ≡ true = from_good plan n (Ran (HadFault (record { code = code; line = line }) lines.items)) is g in let no : ⊥ = cc in no
 end_bad plan n (Good b) is ill g = let no : ⊥ = cc in no
 
--- the module of a file tells whether the file is good
+-- the module of a file says whether the file is good
 pub module_good : (plan : Plan) (n : ℕ) (m : Module) → IsModule plan n m → ended_well m.ended ≡ true → IsGood plan n
 module_good plan n m is well = end_good plan n m.ended is.ended well
 
@@ -129,7 +129,7 @@ open_push files plan n told failed xs ys it same is none less right well =
 abbrev pub frame : ℕ → ℕ → Option ℕ → List (Bor Module) → FrameView
 frame n told failed xs = record { n = n; told = told; failed = failed; modules = map (λ (m : Bor Module). m.now) xs }
 
--- a file that is open, whose next load is told
+-- a file that is open, whose next load is answered
 module _ (files : List File) (plan : Plan) (g : FrameView) (n told : ℕ) (failed : Option ℕ) (xs : List (Bor Module)) (same : g ≡ frame n told failed xs) (is : IsOpen files plan (frame n told failed xs)) (less : g.told < length (loads_of plan g.n)) where
   next_less : told < length (loads_of plan n)
   next_less = subst (λ (x : FrameView). x.told < length (loads_of plan x.n)) same less

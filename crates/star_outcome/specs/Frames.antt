@@ -13,8 +13,8 @@ pub record FrameView : Type 0 where
   pub failed : Option ℕ
   pub modules : List Module
 
--- a file that may be asked for, the first of whose loads were told: one of them is the first that is not good, or all
--- are good and these are their modules
+-- a file that may be asked for, whose first loads were answered: one of them is the first that is not good, or all are
+-- good and these are their modules
 pub record IsOpen (files : List File) (plan : Plan) (f : FrameView) : Type 0 where
   pub asked : IsAsked files plan f.n
   pub told : f.told ≤ length (loads_of plan f.n)

@@ -14,7 +14,7 @@ pub record GivenView : Type 0 where
 abbrev pub HasStore : Shelf → ℕ → Type 0
 HasStore shelf k = (p : Published) × (slice_get shelf k ≡ Some (Some p))
 
--- the file n needs the files of these stores; each store is its file's own
+-- the file n needs the files of these stores. Each store is its file's own
 abbrev pub AreNeeded : Plan → ℕ → List ReachView → Type 0
 AreNeeded plan n rs = All (λ r. Needs plan n r.number × IsOwn plan r.number r.store) rs
 

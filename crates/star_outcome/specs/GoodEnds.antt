@@ -69,7 +69,7 @@ HaveEnd es k =
 abbrev pub AreEndsInPlans : List KeptView → List (Option GoodEnd) → Type 0
 AreEndsInPlans ks es = (plan : Plan) → AreModules plan ks → AreReachedEnds plan es
 
--- and they are those of the files, with the roots, the prelude and the steps
+-- and they are the good ends of the files, with the roots, the prelude and the steps
 abbrev pub AreEndsAgain : List KeptView → List (Option GoodEnd) → Type 0
 AreEndsAgain ks es =
     (files : List File) (roots : List ℕ) (prelude : Option ℕ) (steps : ℕ) → IsOrdered files

@@ -1,4 +1,4 @@
--- The end of a file tells whether the file is good.
+-- The end of a file says whether the file is good.
 use Rattle.std.specs.Arc.{arc_value}
 use Rattle.std.specs.Prelude.{◌≡◌, ◌↔◌, ℕ, true, List}
 use Rattle.std.proofs.Common.{◌∙◌, sym}
@@ -13,7 +13,7 @@ use Rattle.star_outcome.specs.declared.module.Ended.{Ended}
 use Rattle.star_outcome.specs.declared.module.Ended.TheVariants.{Static, Load as Unloaded, Stopped, Good}
 use Rattle.std.proofs.Common.{refl}
 
--- the end of a file tells whether the file is good
+-- the end of a file says whether the file is good
 pub end_good : (plan : Plan) (n : ℕ) (e : Ended) → IsEnd plan n e → (ended_well e ≡ true) ↔ IsGood plan n
 end_good plan n (Static f) is = good plan n (StaticOutcome (fault_of f)) _ refl is
 end_good plan n (Unloaded index line) is = good plan n (UnloadedOutcome index) _ refl is.0
@@ -23,7 +23,7 @@ end_good plan n (Good b) is =
     let body = arc_value b in
     good plan n (Ran (WentWell is.shelf is.globals (shown_texts body.shown.items) body.lines.items)) _ refl is.outcome
 
--- the product of a file tells whether the file is good
+-- the product of a file says whether the file is good
 pub told_good : (files : List File) (plan : Plan) (n : ℕ) (t : ToldView) → IsTold files plan n t
     → (t.good ≡ true) ↔ IsGood plan n
 told_good files plan n t is =

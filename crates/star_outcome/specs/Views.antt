@@ -30,7 +30,7 @@ ended_well (Unloaded index line) = false
 ended_well (Stopped code line lines left) = false
 ended_well (Good body) = true
 
--- these are the stores of the file n and of all files that its loads lead to; each store is its file's own
+-- these are the stores of the file n and of all files that its loads lead to. Each store is its file's own
 pub record AreStores (plan : Plan) (n : ℕ) (rs : List ReachView) : Type 0 where
   pub own : All (λ r. LeadsTo (Loads (loaded plan)) n r.number × IsOwn plan r.number r.store) rs
   pub all : (k : ℕ) → LeadsTo (Loads (loaded plan)) n k → Contains (map (λ r. r.number) rs) k

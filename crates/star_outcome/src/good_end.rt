@@ -56,7 +56,7 @@ fn put_end(alloc: Global, ends: &mut Vec<Option<GoodEnd>>, it: &Module) -> Resul
 }
 
 impl Run {
-    /// The ends of the reached files whose runs went well, each at the number of its file; `files` is the number of all
+    /// The ends of the reached files whose runs went well, each at the number of its file. `files` is the number of all
     /// files. Nothing of a body is copied. The error: an allocation failed.
     pub fn good_ends(
         &mut self,

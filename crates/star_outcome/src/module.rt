@@ -37,7 +37,7 @@ pub struct Left {
 pub enum Ended {
     /// It has a static fault.
     Static(StaticFault),
-    /// The load with this index is the first that is not good; its statement has this line.
+    /// The load with this index is the first that is not good. Its statement has this line.
     Load {
         index: usize,
         line: usize,

@@ -7,12 +7,12 @@ ghost use Rattle.star_outcome.specs.Fits.{IsAsked};
 ghost use Rattle.star_outcome.specs.Views.{AreGoodLoads, IsBadLoad, IsModuleAt};
 
 use crate::module::Module;
-use crate::naming::RunId;
+use crate::run_id::RunId;
 use std::alloc::{AllocError, Global};
 use std::marker::{Model, PhantomData};
 
-/// A file, the number of its loads that were told, the first of these that is not good, and the modules of those before
-/// it.
+/// A file, the number of its loads that were answered, the first of these that is not good, and the modules of those
+/// before it.
 #[derive(Drop)]
 pub struct OpenFile<'s, J: RunId> {
     n: usize,
@@ -44,7 +44,7 @@ impl<'s, J: RunId> Model for OpenFile<'s, J> {
 }
 
 impl<'s, J: RunId> OpenFile<'s, J> {
-    /// A file that was begun. None of its loads was told yet.
+    /// A file that was begun. None of its loads was answered yet.
     pub fn new(alloc: Global, n: usize) -> OpenFile<'s, J>
         requires { IsAsked J.files J.plan n }
         ensures { result ≡ record { n = n; told = 0; failed = None; modules = [] } }
@@ -67,7 +67,7 @@ impl<'s, J: RunId> OpenFile<'s, J> {
         self.n
     }
 
-    /// The number of its loads that were told.
+    /// The number of its loads that were answered.
     pub fn told(&self) -> usize
         ensures told { result ≡ self.now.told }
         ensures within { result ≤ length (loads_of J.plan self.now.n) }
@@ -83,7 +83,7 @@ impl<'s, J: RunId> OpenFile<'s, J> {
         self.failed
     }
 
-    /// The modules of its loads that were told, if all of these are good.
+    /// The modules of its loads that were answered, if all of these are good.
     pub fn modules(&self) -> &[&'s Module]
         ensures { self.now.failed ≡ None → AreGoodLoads J.plan self.now.n self.now.told (map (λ m. m.now) result.now) }
     {

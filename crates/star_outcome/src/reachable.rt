@@ -1,5 +1,5 @@
-//! The stores that a file's body may read: those of all files that its loads lead to. With its own they are the stores
-//! that its module shares with others.
+//! The stores that a file's body may read: the stores of all files that its loads lead to. With its own they are the
+//! stores that its module shares with others.
 
 ghost use Rattle.std.specs.Prelude.{◌≡◌, ◌<◌, ℕ, Some, All, Contains, IfOk, IfSome, OnOk, length, map, slice_get};
 ghost use Rattle.star_cache.specs.State.{Loads};
@@ -11,7 +11,7 @@ ghost use Rattle.star_outcome.specs.Reaches.{row_of, shared_of};
 ghost use Rattle.star_outcome.specs.Views.{AreGoodLoads, AreStores, IsGoodModule};
 
 use crate::module::{Ended, Module};
-use crate::naming::RunId;
+use crate::run_id::RunId;
 use crate::store_row::{Reach, StoreRow};
 use star_store::arena::{Frozen, Homes};
 use std::alloc::{AllocError, Global};

@@ -9,7 +9,7 @@ use std::marker::Model;
 use std::sync::Arc;
 
 /// A row with this many stores beside its blocks turns them into a further block.
-const MANY: usize = 32;
+const MERGE_FROM: usize = 32;
 
 /// The store of a file, shared by all modules that reach it.
 #[derive(Drop)]
@@ -144,7 +144,7 @@ impl StoreRow {
     pub(crate) fn settled(self, alloc: Global) -> Result<StoreRow, AllocError>
         ensures { IfOk result (λ s. row_of s ≡ row_of self) }
     {
-        if self.more.len() < MANY {
+        if self.more.len() < MERGE_FROM {
             return Ok(self);
         }
         let StoreRow { mut blocks, more } = self;

@@ -7,8 +7,8 @@ ghost use Rattle.star_outcome.specs.Kept.{IsKept};
 ghost use Rattle.star_outcome.specs.Views.{IsTold};
 
 use crate::module::Module;
-use crate::naming::RunId;
 use crate::outcome::Kept;
+use crate::run_id::RunId;
 use once_cell::race::Note;
 use star_cache::{Book, Product};
 use std::alloc::AllocError;
@@ -147,6 +147,6 @@ impl<J: RunId> Product for Told<J> {
 pub fn headline<J: RunId>(book: &Book<Told<J>>)
     ensures { Headline (IsAsked J.files J.plan) (IsTold J.files J.plan) book.now }
 {
-    // A call of the book lets the checker use its invariant; the headline follows from it.
+    // A call of the book lets the checker use its invariant. The headline follows from it.
     let _begun = book.begun();
 }

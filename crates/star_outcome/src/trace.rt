@@ -4,7 +4,7 @@ ghost use Rattle.std.specs.Prelude.{◌≡◌, IfOk, IfSome};
 ghost use Rattle.boxcar.specs.Table.{Shows};
 ghost use Rattle.star_outcome.specs.Refusals.{AreRefusals, IsRefusal};
 
-use crate::naming::RunId;
+use crate::run_id::RunId;
 use boxcar::tag::Tag;
 use boxcar::{Keeps, Pushed};
 use std::alloc::{AllocError, Global};

@@ -28,7 +28,7 @@ abbrev pub AllDiffer : List ℕ → Type 0
 AllDiffer [] = Unit {0}
 AllDiffer (n ∷ ns) = (Contains ns n → ⊥) × AllDiffer ns
 
--- a definition that the code holds by references
+-- a definition that the code has by references
 abbrev pub body_of : OneBody → Body
 body_of (one.Statements ss) = Statements ss.now
 body_of (one.Answer e) = Answer e.now

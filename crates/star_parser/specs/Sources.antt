@@ -16,7 +16,7 @@ use Rattle.star_syntax.specs.Language.{Reading}
 abbrev pub Unreadable : List ValuedToken → Type 0
 Unreadable leaves = (statements : List Statement) → Reading statements leaves → ⊥
 
--- the answer for leaves that are not nested too deeply: their reading, or that there is none
+-- the answer for leaves that are not nested too deeply: their reading, or bad syntax if there is none
 abbrev pub ReadAs : List ValuedToken → Result Tree SyntaxFault → Type 0
 ReadAs leaves (Ok tree) = Reading tree.statements leaves
 ReadAs leaves (Err fault) = (fault ≡ BadSyntax) × Unreadable leaves

@@ -23,7 +23,7 @@ pub enum Effect {
 }
 
 /// The greatest weight.
-const LIMIT: usize = 100;
+const MOST_WEIGHT: usize = 100;
 
 /// The weight after some tokens.
 #[derive(Drop)]
@@ -169,7 +169,7 @@ pub fn too_nested(alloc: Global, tokens: &[Token]) -> Result<Option<usize>, Allo
     let mut rest = tokens;
     while let [token, more @ ..] = rest {
         nesting.take(of_kind(token.kind))?;
-        if nesting.weight > LIMIT {
+        if nesting.weight > MOST_WEIGHT {
             return Ok(Some(token.line));
         }
         rest = more;

@@ -128,13 +128,13 @@ fn assigned(
     }
 }
 
-fn told_with(
+fn assignment_of(
     alloc: Global,
     left: Boxed<Expression>,
     operator: Option<BinaryOperator>,
     value: Boxed<Expression>,
 ) -> Result<Option<Form>, AllocError>
-    ensures { IfOk result (λ form. form ≡ spec.told_with left operator value) }
+    ensures { IfOk result (λ form. form ≡ spec.assignment_of left operator value) }
 {
     let Some(operator) = operator else {
         return assigned(alloc, left, value);
@@ -311,9 +311,9 @@ impl Simple {
     }
 
     /// `Tests | Tests '=' Tests | Tests AugOp Tests`: an expression or an assignment.
-    #[tactic(auto, unfolding(star_syntax::specs::Statements::told))]
-    fn told<'a>(&self, leaves: &'a [ValuedToken]) -> Read<'a, Form>
-        ensures { Gives (reads self.now.depth spec.told leaves.now) result }
+    #[tactic(auto, unfolding(star_syntax::specs::Statements::expression_or_assignment))]
+    fn expression_or_assignment<'a>(&self, leaves: &'a [ValuedToken]) -> Read<'a, Form>
+        ensures { Gives (reads self.now.depth spec.expression_or_assignment leaves.now) result }
     {
         let Some((left, rest)) = self.tests(leaves)? else {
             return Ok(None);
@@ -321,7 +321,7 @@ impl Simple {
         let Some(((operator, value), after)) = self.right_side(rest)? else {
             return Ok(Some((Form::Expression(left.into_inner()), rest)));
         };
-        match told_with(self.alloc, left, operator, value)? {
+        match assignment_of(self.alloc, left, operator, value)? {
             Some(form) => Ok(Some((form, after))),
             None => Ok(None),
         }
@@ -359,7 +359,7 @@ impl Simple {
         if let Some(found) = self.load(leaves)? {
             return Ok(Some(found));
         }
-        self.told(leaves)
+        self.expression_or_assignment(leaves)
     }
 
     /// `Small`, with the position of its first token.
@@ -389,9 +389,9 @@ impl Simple {
     }
 
     /// `Small {';' Small}`
-    #[tactic(auto, unfolding(star_syntax::specs::Statements::smalls), using(star_syntax::proofs::Rounds::turns))]
-    fn smalls<'a>(&self, leaves: &'a [ValuedToken]) -> Read<'a, Items<Statement>>
-        ensures { Gives (reads self.now.depth spec.smalls leaves.now) result }
+    #[tactic(auto, unfolding(star_syntax::specs::Statements::small_statements), using(star_syntax::proofs::Rounds::turns))]
+    fn small_statements<'a>(&self, leaves: &'a [ValuedToken]) -> Read<'a, Items<Statement>>
+        ensures { Gives (reads self.now.depth spec.small_statements leaves.now) result }
     {
         let Some((first, mut rest)) = self.small(leaves)? else {
             return Ok(None);
@@ -412,7 +412,7 @@ impl Simple {
     pub fn simple<'a>(&self, leaves: &'a [ValuedToken]) -> Read<'a, Items<Statement>>
         ensures { Gives (reads self.now.depth spec.simple leaves.now) result }
     {
-        let Some((found, rest)) = self.smalls(leaves)? else {
+        let Some((found, rest)) = self.small_statements(leaves)? else {
             return Ok(None);
         };
         let rest = match sign(Punctuator::Semicolon, rest) {

@@ -27,7 +27,7 @@ pub stops : (plan : Plan) (n k : ℕ) → HasFault plan n → FailsBy plan n k �
 stops plan n k (inl (f, is)) (i, first, at) = no_loads plan n f i is first
 stops plan n k (inr (f, lines, (d, is))) (i, first, at) = no_bad plan d n (Stopped f lines) i is first
 
--- what is handed on from each file to the next is handed on to the end of a way
+-- a property that each file hands on to the next is handed on to the end of a way
 pub lead_end : (On : ℕ → ℕ → Type 0) (P : ℕ → Type 0) → ((n k : ℕ) → On n k → P n → P k) → (n m : ℕ) (xs : List ℕ) → LeadBy On n xs m → P n → P m
 lead_end On P hand n m [] lead h = subst P lead h
 lead_end On P hand n m (x ∷ xs) lead h = lead_end On P hand lead.1.0 m xs lead.1.2 (hand n lead.1.0 lead.1.1 h)

@@ -49,8 +49,8 @@ found_in false None at c e = absurd (let no : ⊥ = cc in no)
 found_in false (Some None) at c e = absurd (let no : ⊥ = cc in no)
 found_in false (Some (Some p)) at c e = (p, refl, e)
 
--- a load of a file: the place of its outcome among those of all loads, and its run, over good results at a smaller
--- depth
+-- a load of a file: the place of its outcome among the outcomes of all loads, and its run, over good results at a
+-- smaller depth
 pub record Source (plan : Plan) (d n : ℕ) (ms : List Local) (k : ℕ) (m : Local) : Type 0 where
   pub all : all_good (map (result plan (suc d)) (loaded plan n)) ≡ Some ms
   pub place : ℕ
@@ -91,7 +91,7 @@ kept plan d n ms k m s = run-keeps plan k s.statements s.outcomes m s.run
 pub own_there : (plan : Plan) (d n : ℕ) (ms : List Local) (k : ℕ) (m : Local) (s : Source plan d n ms k m) → slice_get (reached m) k ≡ Some (Some (own plan d n ms k m s))
 own_there plan d n ms k m s = run-own plan d k s.statements s.outcomes m s.run s.below
 
--- all that is reached by the load's outcome is published for the file
+-- each module that the load's outcome reaches is published for the file
 pub published_too : (plan : Plan) (d n : ℕ) (ms : List Local) (k : ℕ) (m : Local) (s : Source plan d n ms k m) (j : ℕ) (q : Published) → slice_get (reached m) j ≡ Some (Some q) → published_of (given plan n ms) j ≡ Some q
 published_too plan d n ms k m s j q at = ap option_flatten (stands_too plan (suc d) n ms s.all s.place k m s.among s.is j q at)
 
@@ -106,7 +106,7 @@ pub not_published : (plan : Plan) (d n : ℕ) (ms : List Local) (k : ℕ) (m : L
 not_published plan d n ms k m s None e = e
 not_published plan d n ms k m s (Some q) e = absurd (not_back plan d n ms k m s q (kept plan d n ms k m s n q (flat_is (slice_get (union (map reached s.outcomes)) n) q e)))
 
--- so it is a load as `loads_fit` wants one
+-- so it is a load that `loads_fit` can take
 pub is_loaded : (plan : Plan) (d n : ℕ) (ms : List Local) (k : ℕ) (m : Local) (s : Source plan d n ms k m) → Loaded (given plan k s.outcomes) s.run.state (given plan n ms)
 is_loaded plan d n ms k m s = record {
   outlines = refl;

@@ -1,4 +1,4 @@
--- Which outcomes are those of good files, and which numbers reached files have.
+-- The outcomes of good files, and the numbers of reached files.
 use Rattle.std.proofs.Common.{◌≡◌, ◌<◌, ◌↔◌, ℕ, Bool, true, length, List, Option, Some, None, refl, ap, sym, subst, ◌∙◌}
 use Rattle.std.specs.Prelude.{slice_get}
 use Rattle.std.specs.Option.{option_flatten}

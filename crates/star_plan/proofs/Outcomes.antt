@@ -65,7 +65,7 @@ no_loads plan n f i read b =
     let there : slice_get [] i ≡ Some b.file = subst (λ ns. slice_get ns i ≡ Some b.file) none b.there in
     let no : ⊥ = cc in no
 
--- the first of some files that is not so has one place
+-- the first of some files without a property has one place
 pub one_first : (P : ℕ → Type 0) (ns : List ℕ) (i j m k : ℕ) → slice_get ns i ≡ Some m → slice_get ns j ≡ Some k → (P m → ⊥) → (P k → ⊥)
     → ((h n : ℕ) → h < i → slice_get ns h ≡ Some n → P n) → ((h n : ℕ) → h < j → slice_get ns h ≡ Some n → P n) → i ≡ j
 one_first P ns i j m k at there bad ill before earlier = by_order (cases_order i j)
@@ -78,7 +78,7 @@ one_first P ns i j m k at there bad ill before earlier = by_order (cases_order i
 pub one_place : (plan : Plan) (ns : List ℕ) (i j : ℕ) → IsFirstBad plan ns i → IsFirstBad plan ns j → i ≡ j
 one_place plan ns i j a b = one_first (IsGood plan) ns i j a.file b.file a.there b.there a.bad b.bad a.before b.before
 
--- one file and others that are good at some depths are good at one
+-- files that are good, each at some depth, are all good at one depth
 pub gather : (plan : Plan) (ns : List ℕ) (ms : List Local) → AreGood plan ns ms → (d : ℕ) × (all_good (map (result plan d) ns) ≡ Some ms)
 gather plan [] [] g = (0, refl)
 gather plan [] (m ∷ ms) g = absurd g

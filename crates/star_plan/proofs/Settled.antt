@@ -53,7 +53,7 @@ within plan n r e =
     let one = flat_there plan.reads n r e in
     slice_get_within plan.reads n one.0 one.1
 
--- all that is good is good at this depth
+-- all good files are good at this depth
 abbrev Settled : Plan → ℕ → Type 0
 Settled plan d = (e n : ℕ) → IsGoodAt plan e n → IsGoodAt plan d n
 
@@ -117,7 +117,7 @@ good_or plan n = turn (if_good (result plan (length plan.reads) n)) refl
         none : (m : Local) → None ≡ Some m → ⊥
         none m both = cc
 
--- of files all are good, or one is the first that is not
+-- either all files of a list are good, or one is the first that is not
 pub first_bad : (plan : Plan) (ns : List ℕ) → ((i n : ℕ) → slice_get ns i ≡ Some n → IsGood plan n) ⊎ ((i : ℕ) × IsFirstBad plan ns i)
 first_bad plan [] = inl (λ i n e. absurd (let no : ⊥ = cc in no))
 first_bad plan (x ∷ ns) = turn (good_or plan x) (first_bad plan ns)

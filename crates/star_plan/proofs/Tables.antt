@@ -32,7 +32,7 @@ tree_flat : (o : Option (Option Reading)) → option_flatten (option_map tree_in
 tree_flat None = refl
 tree_flat (Some o) = refl
 
--- the names that the programs give to the prelude are those of its text
+-- the names that the programs give to the prelude are the names of its text
 same_prelude : (files : List File) (plan : Plan) (placed : Files) → IsPlanOf files plan → trees_of placed ≡ trees plan → PreludeIsSound plan
     → (o : Option ℕ) → plan.prelude ≡ o → (p : Option Prelude) → IsPrelude files o p → prelude_in placed o ≡ p
 same_prelude files plan placed is same sound None at p e = sym e

@@ -15,7 +15,7 @@ same_length [] h x = refl
 same_length (y ∷ ys) zero x = refl
 same_length (y ∷ ys) (suc h) x = ap suc (same_length ys h x)
 
--- how long a shelf is with a place more
+-- the length of a shelf with one more module
 width : (h : ℕ) (q : Published) (s : Shelf) → length (slice_set (widened (h + 1) s) h (Some q)) ≡ length s + ((h + 1) - length s)
 width h q s = same_length (widened (h + 1) s) h (Some q) ∙ longer s ((h + 1) - length s)
 

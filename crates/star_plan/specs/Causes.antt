@@ -31,7 +31,7 @@ pub data Cause : Type 0 where
   Cycle : List ℕ → Cause
 
 -- files lead from a file to its cause: one at which a way ends, or a cycle, which is listed from its first file that is
--- met; no file occurs twice on the path
+-- met. No file occurs twice on the path
 abbrev pub IsCauseBy : (ℕ → ℕ → Type 0) → (ℕ → Type 0) → ℕ → Cause → Type 0
 IsCauseBy On Ends n (Culprit m) = (way : List ℕ) × LeadBy On n way m × Ends m
 IsCauseBy On Ends n (Cycle []) = ⊥

@@ -40,7 +40,7 @@ ResultsAgree = (plan : Plan) (d e n : ℕ) (m k : Local) → result plan d n ≡
 abbrev pub OneOutcome : Type 0
 OneOutcome = (plan : Plan) (n : ℕ) (a b : Outcome) → IsOutcome plan n a → IsOutcome plan n b → a ≡ b
 
--- the outcome of a file tells whether it is good
+-- the outcome of a file says whether it is good
 abbrev pub OutcomesTell : Type 0
 OutcomesTell = (plan : Plan) (n : ℕ) (o : Outcome) → IsOutcome plan n o → (went_well o ≡ true) ↔ IsGood plan n
 
@@ -170,7 +170,7 @@ PlansRunByPlaces =
     × (local_of (given plan n ms) (run_by_places placed plan n ss ms) ≡ ran plan n ms)
     × IsOutcome plan n (Ran (local_of (given plan n ms) (run_by_places placed plan n ss ms)))
 
--- files that are good have good outcomes
+-- good files have good outcomes
 abbrev pub GoodFilesHaveOutcomes : Type 0
 GoodFilesHaveOutcomes =
     (plan : Plan) (ns : List ℕ) → ((i n : ℕ) → slice_get ns i ≡ Some n → IsGood plan n) → (ms : List Local)
@@ -182,13 +182,13 @@ NeedsOfLoads =
     (plan : Plan) (n k : ℕ) → Needs plan n k ↔ ((m : ℕ) × Loads (loaded plan) n m × ((m ≡ k) ⊎ Needs plan m k))
 
 -- the shelf that a run is given over good outcomes has the own modules of all files that the running file needs, and
--- nothing else; its own is not among them
+-- nothing else. Its own module is not among them
 abbrev pub GivenHoldsNeeds : Type 0
 GivenHoldsNeeds = (plan : Plan) (n : ℕ) (ms : List Local) → AreGood plan (loaded plan n) ms
     → HoldsNeeds plan n (given plan n ms).shelf × ((p : Published) → slice_get (given plan n ms).shelf n ≡ Some (Some p)
     → ⊥)
 
--- and whatever shelf has these alone, with no place beyond the last, is that shelf
+-- and each shelf that has these alone, with no place beyond the last, is that shelf
 abbrev pub OneShelf : Type 0
 OneShelf =
     (plan : Plan) (n : ℕ) (ms : List Local) → AreGood plan (loaded plan n) ms → (shelf : Shelf) → IsTight shelf
@@ -207,7 +207,7 @@ RunsLeaveOwn =
     → ran plan n ms ≡ Good (put_up n p (given plan n ms).shelf) globals texts lines → IsOwn plan n p
 
 -- a file without a static fault whose loads are good: its statements are among those of the programs, the programs are
--- right for its run, the functions that it sees fit, and its local meaning is its outcome
+-- right for its run, each function that it sees fits, and its local meaning is its outcome
 abbrev pub PlansAreReady : Type 0
 PlansAreReady = (files : List File) (plan : Plan) (placed : Files) → IsPlanOf files plan → ArePlaced files plan placed
     → (n : ℕ) (ss : List Statement) (ms : List Local) → tree_in (read_of plan n) ≡ Some ss

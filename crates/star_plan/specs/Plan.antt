@@ -17,8 +17,8 @@ pub data Reading : Type 0 where
   Sound : List Statement → List Load → Reading
   Faulty : StaticFault → Reading
 
--- a plan: the roots, the prelude's file, the steps that each file has, and the read files, by number; nothing for a
--- file that is not reached
+-- a plan: the roots, the prelude's file, the steps that each file has, and the read files, by number. It has nothing
+-- for a file that is not reached
 pub record Plan : Type 0 where
   pub roots : List ℕ
   pub prelude : Option ℕ
@@ -29,7 +29,7 @@ pub record Plan : Type 0 where
 abbrev pub read_of : Plan → ℕ → Option Reading
 read_of plan n = option_flatten (slice_get plan.reads n)
 
--- the loads of a file; one with a static fault has none
+-- the loads of a file. A file with a static fault has none
 abbrev pub loads_in : Option Reading → List Load
 loads_in None = []
 loads_in (Some (Faulty f)) = []

@@ -25,7 +25,7 @@ IsPrelude files (Some n) p =
     (answer : Result Tree SyntaxFault) × Parses (text_at files n) answer × (answer ≢ Err syntax_fault.Memory)
     × (p ≡ Some (record { file = n; names = prelude_names (statements_in answer) }))
 
--- this is the reading of the file n, which sees this prelude or is it; want of memory is not a reading
+-- this is the reading of the file n, which sees this prelude or is it. Want of memory is not a reading
 abbrev pub IsRead : List File → Option Prelude → ℕ → Reading → Type 0
 IsRead files prelude n (Faulty (OfText e)) = Parses (text_at files n) (Err e) × (e ≢ syntax_fault.Memory)
 IsRead files prelude n (Faulty (OfNames e)) =

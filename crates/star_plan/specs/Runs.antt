@@ -23,7 +23,7 @@ use Rattle.star_plan.specs.Shelves.{IsOwn}
 abbrev pub PreludeIsSound : Plan → Type 0
 PreludeIsSound plan = (q : ℕ) → plan.prelude ≡ Some q → (ss : List Statement) × (tree_in (read_of plan q) ≡ Some ss)
 
--- a row of programs is that of a plan of these files: it has the statements that were read, and each program is the
+-- a row of programs is the row of a plan of these files. It has the statements that were read. Each program is the
 -- answer of `resolve` for the file of its number, which sees the plan's prelude or is it
 pub record ArePlaced (files : List File) (plan : Plan) (placed : Files) : Type 0 where
   pub prelude : Option Prelude
@@ -61,8 +61,8 @@ given_over placed plan n shelf =
       prelude = plan.prelude;
     }
 
--- a file may run over a shelf: its statements are among those of the programs, the programs are right for the run, the
--- functions that it sees fit; then its local meaning is its outcome, and the module that a good run puts up is the
+-- a file may run over a shelf: its statements are among those of the programs, the programs are right for the run, and
+-- each function that it sees fits. Then its local meaning is its outcome, and the module that a good run puts up is the
 -- file's own
 pub record MayRun (plan : Plan) (placed : Files) (n : ℕ) (ss : List Statement) (shelf : Shelf) : Type 0 where
   pub stands : Stands (trees_of placed) n ss

@@ -33,7 +33,7 @@ code_word code.Deep = codes "deep"
 code_word code.Cut = codes "cut"
 code_word code.BadValue = codes "value"
 
--- the word of a static fault; want of memory is not a static fault of a file, and has none
+-- the word of a static fault. Want of memory is not a static fault of a file, and has none
 abbrev pub syntax_word : SyntaxFault → List ℕ
 syntax_word (syntax.BadToken line) = codes "bad_token"
 syntax_word (syntax.BadIndent line) = codes "bad_indent"
@@ -54,7 +54,7 @@ abbrev pub static_word : StaticFault → List ℕ
 static_word (OfText f) = syntax_word f
 static_word (OfNames f) = scope_word f
 
--- the line of a static fault; bad syntax has the line 0
+-- the line of a static fault. Bad syntax has the line 0
 abbrev pub syntax_line : SyntaxFault → ℕ
 syntax_line (syntax.BadToken line) = line
 syntax_line (syntax.BadIndent line) = line

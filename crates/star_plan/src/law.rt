@@ -28,7 +28,7 @@ pub fn one_outcome()
     ensures { OneOutcome }
 {}
 
-/// The outcome of a file tells whether it is good.
+/// The outcome of a file says whether it is good.
 pub fn outcomes_tell()
     ensures { OutcomesTell }
 {}
@@ -120,13 +120,13 @@ pub fn good_loads_have_prelude()
     ensures { GoodLoadsHavePrelude }
 {}
 
-/// Where the prelude has no static fault, the spots of a plan's programs and the numbers of the names of their blocks
-/// are right for each of its files, in every run.
+/// If the prelude has no static fault, the spots of a plan's programs and the numbers of the names of their blocks are
+/// right for each of its files, in every run.
 pub fn plans_place_names()
     ensures { PlansPlaceNames }
 {}
 
-/// Where all loads of a file are good, each function that its run sees before it begins is one of its own file's
+/// If all loads of a file are good, each function that its run sees before it begins is one of its own file's
 /// definitions, in frames that fit the blocks around it.
 pub fn plans_fit()
     ensures { PlansFit }
@@ -139,12 +139,12 @@ pub fn plans_run_by_places()
 {}
 
 /// A file without a static fault whose loads are good is ready to run. Its statements are among those of the plan's
-/// programs, which are right for its run; the functions that it sees fit; and its local meaning is its outcome.
+/// programs, which are right for its run. Each function that it sees fits, and its local meaning is its outcome.
 pub fn plans_are_ready()
     ensures { PlansAreReady }
 {}
 
-/// Files that are good have good outcomes.
+/// Good files have good outcomes.
 pub fn good_files_have_outcomes()
     ensures { GoodFilesHaveOutcomes }
 {}

@@ -62,7 +62,7 @@ of_write files here w p q i low at names ((v, lead.BadLabel) ∷ rs) a (inl e) =
     absurd (there p q names)
 of_write files here w p q i low at names ((v, lead.BadLabel) ∷ rs) a (inr h) = of_write files here w p q i low at names rs a.1 h
 
--- the file behind one of these labels
+-- the file at one of these labels
 number_of : (files : List File) (ns : List ℕ) (l : List ℕ) → Contains (map (label_at files) ns) l → (n : ℕ) × Contains ns n × (label_at files n ≡ l)
 number_of files ns l c =
     let low : c.0 < length ns = omega (arith, c.1, length-map ns (label_at files)) in

@@ -43,7 +43,7 @@ file_of_prelude q = q.file
 pub some_same : {A : Type 0} (a b : A) → Some a ≡ Some b → a ≡ b
 some_same a b e = cc
 
--- the prelude that a file sees is that of the plan
+-- the prelude that a file sees is the prelude of the plan
 seen : (files : List File) (n m : ℕ) (given : Option ℕ) (p : Option Prelude) → IsPrelude files given p → option_map (λ q. q.file) (seen_by n p) ≡ Some m → given ≡ Some m
 seen files n m None p is e = absurd (let none : option_map (λ (q : Prelude). q.file) (seen_by n None) ≡ Some m = subst (λ (o : Option Prelude). option_map (λ q. q.file) (seen_by n o) ≡ Some m) is e in let no : ⊥ = cc in no)
 seen files n m (Some k) None is e = absurd (let no : ⊥ = cc in no)

@@ -1,6 +1,6 @@
-//! Laws that connect two definitions of the files that are loaded; no code.
+//! Laws that connect two definitions of the files that are loaded. No code.
 //!
-//! A plan of all files of a folder reaches files by their numbers (`star_plan`); roots reach labels in the folder
+//! A plan of all files of a folder reaches files by their numbers (`star_plan`). Roots reach labels in the folder
 //! (`star_repo`). Every file that such a plan reaches is reached in the folder. If the plan has a root, and no file
 //! that it reaches has a static fault, the two reach the same files.
 //!

@@ -93,11 +93,11 @@ grew_more ns n a ta b tb c tc among first next = record {
   left = next.left ∙ first.left;
 }
 
--- an item's file is among those of all items
+-- an item's file is among the files of all items
 pub file_among : {A : Type 0} (f : A → ℕ) (xs : List A) (i : ℕ) (z : A) → i < length xs → Contains (map f xs) (f (get_or xs i z))
 file_among f xs i z inside = (i, omega (arith, inside, length-map xs f), get_or-map f xs i z (f (get_or xs i z)) inside)
 
--- the files of the items so far are found, and that of one more
+-- the files of the items so far are found, and the file of one more
 pub there_more : {A : Type 0} (f : A → ℕ) (xs : List A) (i : ℕ) (z : A) (a b c : List Bool) → i < length xs → length b ≡ length a
     → ((k : ℕ) (d : A) → k < i → f (get_or xs k d) < length a → IsMarked b (f (get_or xs k d)))
     → ((k : ℕ) → IsMarked b k → IsMarked c k)
@@ -154,7 +154,7 @@ found_roots files prelude roots row before marks none todo empty size clear star
     new : (k : ℕ) → IsMarked marks k → Contains roots k × Contains todo k
     new k h = by_cases (grew.fresh k h) (λ old. absurd (none_marked (length files) k (subst (λ m. IsMarked m k) clear old))) (λ x. x)
 
--- a number that waits is that of a file
+-- a number that waits is the number of a file
 pub waits_within : (files : List File) (prelude : Option Prelude) (roots : List ℕ) (row : Row) (marks : List Bool) (todo rest : List ℕ) (n : ℕ) → AreFound files prelude roots row marks todo → todo ≡ rest ++ n ∷ [] → n < length files
 waits_within files prelude roots row marks todo rest n f e =
     let m = marked_within marks n (all_last (IsMarked marks) rest n (subst (All (IsMarked marks)) e f.waits)) in
@@ -254,7 +254,7 @@ module _ (files : List File) (prelude : Option Prelude) (roots : List ℕ) (row 
     waits = grew.found (all_front (IsMarked marks) todo n f.waits);
   }
 
--- nothing waits any more
+-- no file waits any more
 pub all_found : (files : List File) (prelude : Option Prelude) (roots : List ℕ) (row : Row) (marks : List Bool) (todo : List ℕ) → todo ≡ [] → AreFound files prelude roots row marks todo → IsRowOf files prelude roots row
 all_found files prelude roots row marks todo nothing f = record {
   right = f.right;

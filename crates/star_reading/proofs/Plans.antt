@@ -83,7 +83,7 @@ placed_at row n = ap option_flatten (slice_get-map placed_in row n) ∙ flat (sl
     flat None = refl
     flat (Some x) = refl
 
--- the programs of a row are those of a plan with its readings
+-- the programs of a row are the programs of a plan with its readings
 pub placed_so : (files : List File) (roots : List ℕ) (block : Option Prelude) (row : Row) (plan : Plan) → readings row ≡ plan.reads → IsPrelude files plan.prelude block → IsRowOf files block roots row → ArePlaced files plan (table_of row)
 placed_so files roots block row plan is prelude_is rows = record {
   prelude = block;

@@ -10,7 +10,7 @@ flat-map : {A B : Type 0} (f : A → B) (o : Option (Option A)) → option_flatt
 flat-map f None = refl
 flat-map f (Some o) = refl
 
--- a plan's reading of a file is that of the row
+-- a plan's reading of a file is its reading in the row
 pub read_is : (plan : Plan) (row : Row) (n : ℕ) → readings row ≡ plan.reads → read_of plan n ≡ option_map reading_of (read_at row n)
 read_is plan row n e =
     ap (λ rs. option_flatten (slice_get rs n)) (sym e)

@@ -1,21 +1,21 @@
--- Words of the contracts of reading ahead: what was right for files and their prelude stays right.
+-- Words of the contracts of reading ahead: a row that was right for files and their prelude stays right.
 use Rattle.std.specs.Prelude.{ℕ, All, IfOk, IfSome, List, Option, Result, Vec}
 use Rattle.star_label.specs.Files.{File}
 use Rattle.star_scope.specs.declared.program.Prelude.{Prelude}
 use Rattle.star_reading.specs.Readings.{AreAllReadAs, AreReadAs, IsReadAs, Row}
 use Rattle.star_reading.specs.declared.reading.Read.{Read}
 
--- where each of the old ones is the reading of its file, so is each of the new ones
+-- if each of the old ones is the reading of its file, so is each of the new ones
 abbrev pub StayReadings : List File → Option Prelude → List (ℕ × Read) → List (ℕ × Read) → Type 0
 StayReadings files prelude old new = AreAllReadAs files prelude old → AreAllReadAs files prelude new
 
--- a row that was right for files and a prelude of which this is so is still right for them
+-- if this holds of files and a prelude, and the row was right for them, it still is
 abbrev pub StaysRight : (List File → Option Prelude → Type 0) → Row → Row → Type 0
 StaysRight P old new =
     (files : List File) (prelude : Option Prelude) → P files prelude → AreReadAs files prelude old
     → AreReadAs files prelude new
 
--- the reading of a file is taken out of a row: where the row was right, both are
+-- the reading of a file is taken out of a row: if the row was right, both are
 abbrev pub IsTaken : ℕ → Option Read → Row → Row → Type 0
 IsTaken n taken old new =
     (files : List File) (prelude : Option Prelude) → AreReadAs files prelude old

@@ -22,8 +22,8 @@ pub record IsClosed (row : Row) (roots : List ℕ) : Type 0 where
   pub starts : AreRead row roots
   pub loads : (n : ℕ) → All (λ l. IsSome (read_at row l.file)) (loads_at row n)
 
--- the read files as a plan for roots; the reached files do not depend on its steps, and on the prelude only by the
--- readings
+-- the read files as a plan for roots. The reached files do not depend on its steps, and depend on the prelude only
+-- through the readings
 abbrev pub plan_by : List ℕ → Row → Plan
 plan_by roots row = record { roots = roots; prelude = None; steps = 0; reads = readings row }
 
@@ -42,7 +42,7 @@ AreMarked roots marks = (n : ℕ) → n < length marks → slice_index_or marks 
 abbrev pub left_of : List Bool → List ℕ → ℕ
 left_of marks todo = count_by not marks + length todo
 
--- some of these files are found as well, and wait to be read; the number of files left stays
+-- some of these files are found as well, and wait to be read. The number of files left stays
 pub record Grew (ns : List ℕ) (marks : List Bool) (todo : List ℕ) (marks_after : List Bool) (todo_after : List ℕ) : Type
     0 where
   pub size : length marks_after ≡ length marks
@@ -65,11 +65,11 @@ pub record AreFound (files : List File) (prelude : Option Prelude) (roots : List
   pub done : (n : ℕ) → IsMarked marks n → IsSome (read_at row n) ⊎ Contains todo n
   pub waits : All (IsMarked marks) todo
 
--- so it is of what the code has found
+-- this holds of the files that the code has found
 abbrev pub HasFound : List File → Option Prelude → List ℕ → Found → Type 0
 HasFound files prelude roots f = AreFound files prelude roots f.reads.items f.marks.items f.todo.items
 
--- so it is where one file more waits, the last
+-- the same if one more file waits, the last
 abbrev pub HasFoundWith : List File → Option Prelude → List ℕ → Found → ℕ → Type 0
 HasFoundWith files prelude roots f n = AreFound files prelude roots f.reads.items f.marks.items (f.todo.items ++ n ∷ [])
 

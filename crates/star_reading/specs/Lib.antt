@@ -1,4 +1,4 @@
--- Words of the contracts of reading; the definition is `Reading` of star_plan.
+-- Words of the contracts of reading. The definition is `Reading` of star_plan.
 pub mod Codes
 pub mod Parsed
 pub mod Readings

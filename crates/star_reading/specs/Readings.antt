@@ -33,11 +33,11 @@ read_at row n = option_flatten (slice_get row n)
 abbrev pub loads_at : Row → ℕ → List Load
 loads_at row n = loads_in (option_map reading_of (read_at row n))
 
--- the loads of all that was read lead to places of the row
+-- the loads of all read files lead to places of the row
 abbrev pub LeadWithin : Row → Type 0
 LeadWithin row = (n : ℕ) → All (λ l. l.file < length row) (loads_at row n)
 
--- so it is in each plan that has what was read
+-- this holds in each plan that has these readings
 abbrev pub InReadPlans : Row → (Plan → Type 0) → Type 0
 InReadPlans row P = (plan : Plan) → readings row ≡ plan.reads → P plan
 
@@ -54,7 +54,7 @@ placed_in (Some (read.Fault f)) = None
 abbrev pub table_of : Row → Files
 table_of row = map placed_in row
 
--- this is read of the file n: its program, by its text and the prelude that it sees; or its static fault
+-- this is read of the file n: its program, by its text and the prelude that it sees, or its static fault
 abbrev pub IsReadAs : List File → Option Prelude → ℕ → Read → Type 0
 IsReadAs files prelude n (read.Program p) =
     (tree : Tree) × Parses (text_at files n) (Ok tree) × (p.statements.now ≡ tree.statements)
@@ -75,7 +75,7 @@ AreReadAs files prelude row =
 abbrev pub AreAllReadAs : List File → Option Prelude → List (ℕ × Read) → Type 0
 AreAllReadAs files prelude reads = All (λ p. IsReadAs files prelude p.0 p.1) reads
 
--- a program among the read files is that of some file
+-- a program among the read files is the program of some file
 abbrev pub IsPlaceable : Option Read → Type 0
 IsPlaceable None = Unit {0}
 IsPlaceable (Some (read.Program p)) = IsOfFile p

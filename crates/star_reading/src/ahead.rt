@@ -15,9 +15,9 @@ use std::thread;
 use std::thread::Threads;
 
 /// One thread more may read for each further group of this many files.
-const SHARE: usize = 16;
+const FILES_A_THREAD: usize = 16;
 
-/// What one thread has read, by the numbers of the files. The error: an allocation failed.
+/// The results that one thread has read, by the numbers of the files. The error: an allocation failed.
 type Readings<'t> = Result<Vec<(usize, Read<'t>)>, AllocError>;
 
 /// The bytes of the texts of files.
@@ -67,8 +67,8 @@ impl<'s, 't> Reader<'s, 't> {
         unreachable!()
     }
 
-    /// As `read_found`, for one of several threads. If it fails, it leaves the search, so that no other thread waits for
-    /// it.
+    /// As `read_found`, for one of several threads. If it fails, it leaves the search, so that no other thread waits
+    /// for it.
     fn read_share<R: Wait>(&self, rt: &R, search: &Search) -> Readings<'t>
         requires parses { AreParsesOf self.now.files.now self.now.parses.now }
         ensures { IfOk result (λ reads.
@@ -116,7 +116,7 @@ impl<'s, 't> Reader<'s, 't> {
     {
         let count = self.files.len();
         let mut ahead = Found::new(self.alloc, count)?;
-        let threads = threads.min(count / SHARE + 1);
+        let threads = threads.min(count / FILES_A_THREAD + 1);
         if threads < 2 {
             return Ok(ahead);
         }

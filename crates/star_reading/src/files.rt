@@ -34,7 +34,8 @@ pub fn prelude_over<'t>(
     }
 }
 
-/// The texts of files: the files, the place of their trees, and what is parsed already, by the numbers of the files.
+/// The texts of files: the files, the place of their trees, and the texts that are parsed already, by the numbers of
+/// the files.
 #[derive(Clone, Copy)]
 pub struct Texts<'s, 't> {
     pub files: &'s Labels,

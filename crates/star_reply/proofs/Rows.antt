@@ -2,7 +2,7 @@
 use Rattle.std.proofs.Common.{arith, ◌≡◌, ℕ, suc, List, [], ◌∷◌, map, refl, ap, ◌∙◌}
 use Rattle.std.specs.List.{All}
 
--- rows with the same numbers in order are one, where two items of one number are one by what holds of all items
+-- rows with the same numbers in order are equal, if the fact of all items makes two items with one number equal
 pub same_rows : {T : Type 0} (number : T → ℕ) (P : T → Type 0) → ((x y : T) → number x ≡ number y → P x → P y → x ≡ y)
     → (xs ys : List T) → map number xs ≡ map number ys → All P xs → All P ys → xs ≡ ys
 same_rows number P one [] [] e p q = refl

@@ -66,8 +66,8 @@ OneReply =
     → (x y : Option (List ℕ)) (ok well : Bool) → Replies output roots prelude steps input before x ok
     → Replies output roots prelude steps input before y well → (x ≡ y) × (ok ≡ well)
 
--- what is answered by the caller's own thread is a reply of `serve`, to a writer that had taken nothing; so it has the
--- text of every such reply
+-- The answer of the caller's own thread is a reply of `serve` to a writer that had taken nothing. So it has the text of
+-- every such reply.
 abbrev pub AloneReplies : Type 0
 AloneReplies =
     (wanted : Wanted) (roots : List (List ℕ)) (prelude : Option (List ℕ)) (steps : ℕ) (input : List ℕ) (asked : Asked)

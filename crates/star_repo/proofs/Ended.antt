@@ -1,4 +1,4 @@
--- The end of a reading: its files are within the limits, and they are those of the run.
+-- The end of a reading: its files are within the limits, and they are the files of the run.
 use Rattle.std.proofs.Common.{◌≡◌, ◌≤◌, ℕ, List, [], ◌∷◌, length, map, Bool, false, ◌||◌, Some, None, inl, inr, refl, subst}
 use Rattle.std.specs.Prelude.{◌↔◌}
 use Rattle.std.specs.List.{list_any}

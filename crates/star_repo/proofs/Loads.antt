@@ -36,7 +36,7 @@ loads_of_tree here text tree m parses = (
       (h.2, subst (λ (t : Tree). IsIn h.2 (written t.statements)) same (to_in (written h.0.statements) h.2 h.3), h.4, h.5, h.6, h.7)),
 )
 
--- one that does not loads nothing
+-- a text that does not parse loads nothing
 pub no_loads : (here text : List ℕ) (fault : SyntaxFault) (m : List ℕ) → Parses text (Err fault) → (fault ≡ Memory → ⊥) → LoadsLabel here text m → ⊥
 no_loads here text fault m parses named h =
     let same = one_answer text (Ok h.0) (Err fault) (λ e. let no : ⊥ = cc in no) (λ e. named (err_same fault Memory e)) h.1 parses in

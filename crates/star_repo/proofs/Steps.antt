@@ -36,7 +36,7 @@ some_same a b e = cc
 some_none : {A : Type 0} (a : A) → Some a ≡ None → ⊥
 some_none a e = cc
 
--- a front is that of some text, which is the file if anything is said of it
+-- a front is the front of some text, which is the file if the folder tells of it
 pub front_of : (o : Option (Option (List ℕ))) (front : List ℕ) → TellsFront o (Some front) → (all : List ℕ) × Tells o (Some all) × (front ≡ take 1048577 all)
 front_of None front h = (front, tt, sym (take_all 1048577 front h))
 front_of (Some None) front h = absurd (some_none front h)

@@ -22,7 +22,7 @@ is_turn said words d count found (turn.Next r) way all more h = (h.0 said words 
 is_turn said words d count found (turn.End f) way all more h =
     (subst (λ g. IsOnWay said words d g []) (sym h.0) way, subst (λ (g : Found). AllRead g.looked) (sym h.0) all, subst (λ (g : Found). g.fresh.items ≡ []) (sym h.0) h.1)
 
--- a round of a reading that has come to it turns so, in a folder that says the same as at first
+-- a reading that has come to this round goes on with this turn, in a folder that tells the same as at first
 pub turned : (old says : Said) (words : Words) (d : ℕ) (round : Round) (t u : Turn) → says ≡ old → IsOnWay old words d round.found (labels_of round.waiting.keys)
     → AllRead round.found.looked → round.found.fresh.items ≡ [] → TurnsTo says round t → t ≡ u → IsTurn says words d round.found.count u
 turned old says words d round t u same way all fresh turns is =

@@ -427,7 +427,7 @@ fails said words d answers fresh rest count size l new below way =
       },
     )
 
--- a label that waits is not that of a fresh file
+-- a label that waits is not the label of a fresh file
 pub not_fresh : (said : Said) (words : Words) (d : ℕ) (answers : List Answer) (fresh : List File) (rest : List (List ℕ)) (count size : ℕ) (l t : List ℕ)
     → IsWay said words d answers fresh (l ∷ rest) count size → IsIn (l, t) fresh → ⊥
 not_fresh said words d answers fresh rest count size l t way h =

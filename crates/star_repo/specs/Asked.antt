@@ -15,12 +15,13 @@ use Rattle.star_repo.specs.declared.error.RepoError.TheVariants as why
 abbrev pub words_for : List (List ℕ) → Option (List ℕ) → Words
 words_for roots prelude = record { roots = roots; prelude = prelude }
 
--- these are the files that the roots and the prelude reach in some folder that fits all that is told, within the limits
+-- these are the files that the roots and the prelude reach in some folder that fits all that this one tells, within the
+-- limits
 abbrev pub AreFilesFor : Said → List (List ℕ) → Option (List ℕ) → List File → Type 0
 AreFilesFor said roots prelude files = AreFilesBy said (words_for roots prelude) files
 
--- why they were not read: in some such folder the file at the label is the first, by its round and its label, that does
--- not pass; or a root, or else the prelude, is not a label
+-- Why they were not read. In some such folder the file at the label is the first, by its round and its label, that does
+-- not pass. Or a root, or else the prelude, is not a label.
 abbrev pub IsUnread : Said → List (List ℕ) → Option (List ℕ) → RepoError → Type 0
 IsUnread said roots prelude (why.File label error) =
     (held : Held) × Fits said held × IsRefusedAt held (words_for roots prelude) (text_of label) error

@@ -6,7 +6,7 @@ use Rattle.std.specs.Str.{bytes_eq}
 abbrev pub Held : Type 0
 Held = List ℕ → Option (List ℕ)
 
--- the files that a folder tells of, by label; nothing if it does not tell of one
+-- the files that a folder tells of, by label: nothing if it does not tell of the label
 abbrev pub Said : Type 0
 Said = List ℕ → Option (Option (List ℕ))
 

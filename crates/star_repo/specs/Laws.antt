@@ -53,7 +53,7 @@ SameWhereReached =
     (held : Held) (words : Words) (whole part : List File) → AreAllFiles held whole → AreReachedFiles held words part
     → (l text : List ℕ) → IsReachedOf held words l → Contains whole (l, text) ↔ Contains part (l, text)
 
--- the files of a run are refused in one way: at one label, and so; but a read may fail
+-- the files of a run are refused in one way: at one label and with one error, unless a read fails
 abbrev pub OneRefusal : Type 0
 OneRefusal =
     (held : Held) (words : Words) (l m : List ℕ) (e f : ServeError) → IsRefusedAt held words l e

@@ -12,7 +12,7 @@ use Rattle.star_repo.specs.declared.known.Known.{Known}
 abbrev pub AreParsed : List (Label × String Global) → List ParsedView → Type 0
 AreParsed files parses = AllZip (λ f p. IsParsed (string_bytes f.1) p) files parses
 
--- the same of files, none of which lacks its result
+-- the same of files that all have their results
 abbrev pub AreFilesParsed : List File → List (Option ParsedView) → Type 0
 AreFilesParsed files parses = AllZip (λ f p. IsSomeAnd p (IsParsed f.1)) files parses
 

@@ -42,11 +42,11 @@ pub record Pass (files : List File) : Type 0 where
   pub few : length files ≤ 10000
   pub small : size_of files ≤ 268435456
 
--- the files that these words reach in some folder that fits all that is told, within the limits
+-- the files that these words reach in some folder that fits all that this one tells, within the limits
 abbrev pub AreFilesBy : Said → Words → List File → Type 0
 AreFilesBy said words files = (held : Held) × Fits said held × AreReachedFiles held words files × Pass files
 
--- a file with these bytes is refused after this many files and bytes; a read that failed says nothing of them
+-- A file with these bytes is refused after this many files and bytes. A read that failed says nothing about them.
 abbrev pub Refuses : ℕ → ℕ → List ℕ → ServeError → Type 0
 Refuses count size bytes TooMany = count ≡ 10000
 Refuses count size bytes BadFile = ⊤
@@ -56,7 +56,7 @@ Refuses count size bytes TooBig =
     (count < 10000) × (length bytes ≤ 1048576) × IsUtf8 bytes × (268435456 < size + length bytes)
 Refuses count size bytes e = ⊥
 
--- a file with these bytes is at the label; if its read failed, nothing is known of it
+-- A file with these bytes is at the label. If its read failed, nothing is known of it.
 abbrev pub Stands : Held → List ℕ → List ℕ → ServeError → Type 0
 Stands held l bytes BadFile = ⊤
 Stands held l bytes e = held l ≡ Some bytes

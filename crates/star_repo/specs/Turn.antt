@@ -17,7 +17,7 @@ Turns found (turn.Next r) =
     × (found.fresh.items ≡ [] → ⊥)
 Turns found (turn.End f) = (f ≡ found) × (found.fresh.items ≡ [])
 
--- a further round begins after this one, with more files than `count`; or the reading has come to its end
+-- a further round begins after this one, with more files than `count`, or the reading has come to its end
 abbrev pub IsTurn : Said → Words → ℕ → ℕ → Turn → Type 0
 IsTurn said words d count (turn.Next r) =
     IsOnWay said words (suc d) r.found (labels_of r.waiting.keys) × AllRead r.found.looked
@@ -25,7 +25,7 @@ IsTurn said words d count (turn.Next r) =
 IsTurn said words d count (turn.End f) =
     IsOnWay said words d f [] × AllRead f.looked × (f.fresh.items ≡ [])
 
--- Of a folder that says so: a reading that has come to this round then turns so.
+-- In a folder that tells this, a reading that has come to this round goes on with this turn.
 abbrev pub TurnsTo : Said → Round → Turn → Type 0
 TurnsTo said round turn =
     (words : Words) (d : ℕ) → IsOnWay said words d round.found (labels_of round.waiting.keys)

@@ -63,7 +63,7 @@ Says said words (why.Refused label error) =
     (held : Held) × Fits said held × IsRefusedAt held words (text_of label) error
 Says said words why.Memory = ⊤
 
--- Of a folder that says so: a reading that has come to these labels has then looked them all up.
+-- In a folder that tells this, a reading that has come to these labels has then looked them all up.
 abbrev pub LooksUpAll : Said → Found → List (List ℕ) → Found → Type 0
 LooksUpAll said found labels after =
     (words : Words) (d : ℕ) → IsOnWay said words d found labels → IsOnWay said words d after []
@@ -72,7 +72,7 @@ LooksUpAll said found labels after =
 abbrev pub FailsAmong : Said → Found → List (List ℕ) → ReadError → Type 0
 FailsAmong said found labels e = (words : Words) (d : ℕ) → IsOnWay said words d found labels → Says said words e
 
--- Of a folder that says so: a reading that has come to this label has then looked it up.
+-- In a folder that tells this, a reading that has come to this label has then looked it up.
 abbrev pub LooksUp : Said → Found → Label → Found → Type 0
 LooksUp said found label after =
     (words : Words) (d : ℕ) (rest : List (List ℕ)) → IsBelow (text_of label) rest
@@ -84,7 +84,8 @@ FailsAt said found label e =
     (words : Words) (d : ℕ) (rest : List (List ℕ)) → IsBelow (text_of label) rest
     → IsOnWay said words d found (text_of label ∷ rest) → Says said words e
 
--- Of each folder that tells so of a label: a reading that has come to it for the first time has then looked it up.
+-- In each folder that tells this of a label, a reading that has come to the label for the first time has then looked it
+-- up.
 abbrev pub LooksUpNew : Found → Label → (Option (Option (List ℕ)) → Type 0) → Found → Type 0
 LooksUpNew found label Told after =
     (said : Said) (words : Words) (d : ℕ) (rest : List (List ℕ)) → IsUnknown label found.looked.entries
@@ -111,7 +112,7 @@ abbrev pub IsNamed : List ℕ → List Written → List ℕ → Type 0
 IsNamed here ws m = (w : Written) × IsIn w ws
     × (p : List ℕ) × (n : List ℕ) × Reads here w.module_string.text p n × (m ≡ label_text p n)
 
--- labels, and further ones: those of which this holds
+-- labels, and further ones: those that have this property
 abbrev pub GainsLabels : List Label → List Label → (List ℕ → Type 0) → Type 0
 GainsLabels old new IsNew = (m : List ℕ) → IsIn m (labels_of new) ↔ (IsIn m (labels_of old) ⊎ IsNew m)
 
@@ -120,22 +121,22 @@ abbrev pub GainsLoads : List Label → List Label → Label → ParsedView → T
 GainsLoads old new label parsed =
     (text : List ℕ) → IsParsed text parsed → GainsLabels old new (LoadsLabel (package_of (text_of label)) text)
 
--- a file is kept after the others, beside the result of parsing it; an absent one is not
+-- A file is kept after the others, beside the result of parsing it. An absent one is not.
 abbrev pub IsKept : List (Label × String Global) → List ParsedView → Label → Option ReadFile
     → List (Label × String Global) → List ParsedView → Type 0
 IsKept texts parses label None more others = (more ≡ texts) × (others ≡ parses)
 IsKept texts parses label (Some f) more others =
     (more ≡ texts ++ (label, f.text) ∷ []) × (others ≡ parses ++ f.parsed ∷ [])
 
--- the label comes after those of these files
+-- the label comes after the labels of these files
 abbrev pub IsAfter : Label → List (Label × String Global) → Type 0
 IsAfter label texts = (f : File) → IsIn f (map file_of texts) → slice_cmp nat_cmp f.0 (text_of label) ≡ Less
 
--- the entries with that of a file, at the place of its label
+-- the entries with the entry of a file, at the place of its label
 abbrev pub with_read : List (Label × Option ReadFile) → Label → ReadFile → List (Label × Option ReadFile)
 with_read looked label file = insert_entry (λ l m. slice_cmp nat_cmp (text_of l) (text_of m)) looked label (Some file)
 
--- .. with that of a fresh file, beside the result of parsing it
+-- .. with the entry of a fresh file, beside the result of parsing it
 abbrev pub GainsFile : List (Label × Option ReadFile) → List (Label × Option ReadFile) → Label × String Global
     → ParsedView → Type 0
 GainsFile old new fresh parsed =

@@ -36,8 +36,8 @@ pub record IsDone (held : Held) (words : Words) (d : ℕ) (fresh : List File) (r
   pub below : IsBelow l rest
   pub is_fresh : (t : List ℕ) → o ≡ Some t → IsIn (l, t) fresh
 
--- In the round d these labels were looked up, and these wait: all labels of the rounds before were looked up, and of
--- this round those that do not wait, whose files are the fresh ones.
+-- In the round d these labels were looked up, and these wait. All labels of the rounds before were looked up, and of
+-- this round those that do not wait. The fresh files are the files of the latter.
 pub record IsAtRound (held : Held) (words : Words) (d : ℕ) (answers : List Answer) (fresh : List File)
     (rest : List (List ℕ)) : Type 0 where
   pub met : (l : List ℕ) (o : Option (List ℕ)) → IsIn (l, o) answers

@@ -17,8 +17,8 @@ use std::fs::{self, DirEntry};
 use std::io::{self, ErrorKind};
 use std::rt::Files;
 
-/// The folder at a path of the disk. It counts its failures. It promises nothing of its content, since no contract can
-/// say what a disk gives. Links are followed.
+/// The folder at a path of the disk. It counts its failures. It promises nothing about its content, since no contract
+/// can say what a disk gives. Links are followed.
 #[derive(Drop)]
 pub struct DiskRepo<'a, R> {
     rt: &'a R,
@@ -82,7 +82,7 @@ fn leads_nowhere(kind: ErrorKind) -> bool {
     )
 }
 
-/// The size in bytes of the file that a path leads to, through links too; `None` if it leads to no file.
+/// The size in bytes of the file that a path leads to, through links too. `None` if it does not lead to a file.
 fn size_at<R: Files>(rt: &R, path: &str) -> io::Result<Option<u64>> {
     match fs::metadata(rt, path) {
         Ok(metadata) if metadata.is_file() => Ok(Some(metadata.len())),
@@ -133,7 +133,7 @@ fn found_of<R: Files + AllocGlobal>(rt: &R, top: &str, label: &Label) -> io::Res
     found_at(rt, path)
 }
 
-/// The entry of a folder; `None` if its name is not UTF-8.
+/// The entry of a folder. `None` if its name is not UTF-8.
 fn entry_of<R: Files + AllocGlobal + Clone + Drop>(
     alloc: Global,
     entry: io::Result<DirEntry<R>>,

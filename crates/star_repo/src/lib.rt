@@ -8,7 +8,7 @@
 //!   result: the numbered files, with their parsed trees.
 //! - `known` has texts that were parsed before, which are not parsed again.
 //! - `asked::read_asked` begins with the words of the command line.
-//! - `RepoError` is a refusal with its label; `wanting` finds the load statement to name beside it.
+//! - `RepoError` is a refusal with its label, and `wanting` finds the load statement to name beside it.
 //!
 //! Begin at `reach.rt`, from its end. The promise is the contract of `read_reached`: the files of the least set of
 //! labels that has the roots and all loads of its members (`specs/Reach`), or the one refusal that comes first, by

@@ -1,5 +1,5 @@
-//! The byte order mark at the front of a file, which does not belong to its text; and how many bytes of a file are
-//! read.
+//! The byte order mark at the front of a file, which does not belong to its text, and the number of bytes that are read
+//! of a file.
 
 ghost use Rattle.std.specs.Prelude.{◌≡◌, IfOk, take};
 ghost use Rattle.star_repo.specs.Held.{unmarked};

@@ -13,7 +13,7 @@ use std::sync::Wait;
 use std::thread::{self, Threads};
 
 /// With each further group of this many texts one more thread parses.
-const SHARE: usize = 16;
+const TEXTS_A_THREAD: usize = 16;
 
 /// How texts are parsed.
 #[derive(Clone, Copy)]
@@ -78,7 +78,7 @@ fn parsed_again<'t, R: Wait>(
     Ok(parses)
 }
 
-/// The results of parsing all texts, joined from those of the parts of their list.
+/// The results of parsing all texts, joined from the results of the parts of their list.
 fn joined<'t>(
     alloc: Global,
     parts: Vec<Result<Vec<Parsed<'t>>, AllocError>>,
@@ -129,7 +129,7 @@ pub(crate) fn parsed_all<'t, R: Threads + Wait + Sync>(
     if let Some(known) = parsing.known {
         return parsed_again(rt, alloc, trees, &known, files);
     }
-    let threads = parsing.threads.min(files.len() / SHARE + 1);
+    let threads = parsing.threads.min(files.len() / TEXTS_A_THREAD + 1);
     if threads < 2 {
         return parsed_each(rt, alloc, trees, files);
     }

@@ -170,8 +170,8 @@ fn next_turn<'t, R: Threads + Wait + Sync, F: Repo>(
 }
 
 /// The files that these labels reach in a folder. Each label is looked up once, when it is met: first these, and in
-/// each further round those that the files of the round before load; in a round in the order of the labels. The texts
-/// of a round are then parsed, and their trees are kept with the others.
+/// each further round those that the files of the round before load. A round looks up its labels in their order. The
+/// texts of a round are then parsed, and their trees are kept with the others.
 ///
 /// It stops at the first label, by its round and its bytes, whose file does not pass: `BadFile`, it cannot be read;
 /// `TooMany`, it is the 10,001st; `TooLong`, it has more than 1,048,576 bytes; `NotText`, it is not UTF-8; `TooBig`,

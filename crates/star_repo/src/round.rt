@@ -88,7 +88,7 @@ pub(crate) fn add_loads(
     Ok(())
 }
 
-/// The labels that a file loads wait to be looked up; none if its text does not parse.
+/// The labels that a file loads wait to be looked up. There are none if its text does not parse.
 fn add_file(
     alloc: Global,
     waiting: &mut BTreeSet<Label>,

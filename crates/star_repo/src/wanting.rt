@@ -66,7 +66,7 @@ fn line_of(
     Ok(None)
 }
 
-/// The tree of the file at a label; `None` if there is no file, or one that cannot be read or does not parse.
+/// The tree of the file at a label. `None` if there is no file, or one that cannot be read or does not parse.
 fn tree_at<'t, R: Wait, F: Repo>(
     rt: &R,
     alloc: Global,
@@ -89,7 +89,7 @@ fn tree_at<'t, R: Wait, F: Repo>(
     }
 }
 
-/// A load statement that asks for a label, in the files that these labels reach in a folder; `None` if only the labels
+/// A load statement that asks for a label, in the files that these labels reach in a folder. `None` if only the labels
 /// themselves ask for it. It reads the files anew, in the order of their labels as they are met, and is for the text of
 /// a refusal.
 pub fn wanting<R: Wait, F: Repo>(

@@ -1,4 +1,4 @@
--- The open files from the last frame's on are a component.
+-- The open files from the last frame's place on are a component.
 use Rattle.std.proofs.Common.{arith, ◌≡◌, ◌<◌, ◌≤◌, ◌+◌, ◌-◌, ◌++◌, ◌⊎◌, inl, inr, ℕ, zero, suc, List, [], ◌∷◌, drop, length, get_or, take, refl, ap, sym, subst, ◌∙◌}
 use Rattle.std.proofs.lemmas.Bool.{cases_eq, cases_lt}
 use Rattle.std.proofs.lemmas.List.{get_or-drop, get_or-take, length-drop, length-take-le}
@@ -12,7 +12,7 @@ use Rattle.star_report.specs.Search.{AreFrames, IsClosedBy, IsFrame, IsKnown, Is
 use Rattle.star_report.proofs.ComponentMarks.{left_stays, same_leads, then}
 use Rattle.star_report.proofs.ComponentFrames.{all_own, frames_stay}
 
--- a mark is not another
+-- a file does not have two different marks
 clash : (marks : List Mark) (n : ℕ) (x y : Mark) → mark_at marks n ≡ x → mark_at marks n ≡ y → (x ≡ y → ⊥) → ⊥
 clash marks n x y a b other = other (sym a ∙ b)
 
@@ -28,7 +28,7 @@ same_number k l e = cc
 same_place : (i j : ℕ) → Open i ≡ Open j → i ≡ j
 same_place i j e = cc
 
--- what is not new is a place of the marks
+-- the number of an open file is below the number of marks
 pub marked_within : (marks : List Mark) (n i : ℕ) → mark_at marks n ≡ Open i → n < length marks
 marked_within [] n i is = absurd (let no : ⊥ = cc in no)
 marked_within (x ∷ marks) zero i is = omega arith
@@ -43,7 +43,7 @@ module _ (row : Row) (marks after : List Mark) (stack : List ℕ) (f : Frame) (f
     rest_at : (i : ℕ) → get_or (drop f.place stack) i 0 ≡ get_or stack (f.place + i) 0
     rest_at i = get_or-drop f.place stack i 0
 
-    -- an open file from the frame's on is marked
+    -- each open file from the frame's place on is marked as closed
     closes : (i : ℕ) → f.place ≤ i → i < length stack → mark_at after (get_or stack i 0) ≡ Closed count
     closes i from less =
         let k = i - f.place in
@@ -53,7 +53,7 @@ module _ (row : Row) (marks after : List Mark) (stack : List ℕ) (f : Frame) (f
         let within = marked_within marks (get_or stack i 0) i (was.opened i less) in
         subst (λ n. mark_at after n ≡ Closed count) there (by.closed k (omega (arith, from, less, size)) (subst (λ n. n < length marks) (sym there) within))
 
-    -- a file has its mark of before, or was open from the frame's on
+    -- a file has its old mark, or was open at the frame's place or after it
     turned : (n : ℕ) → (mark_at after n ≡ mark_at marks n) ⊎ ((i : ℕ) × (f.place ≤ i) × (i < length stack) × (get_or stack i 0 ≡ n) × (mark_at after n ≡ Closed count))
     turned n = elim (by.other n) [
       | inl same ↦ inl same
@@ -88,7 +88,7 @@ module _ (row : Row) (marks after : List Mark) (stack : List ℕ) (f : Frame) (f
     kept_at : (i : ℕ) → i < f.place → get_or (take f.place stack) i 0 ≡ get_or stack i 0
     kept_at i less = get_or-take f.place stack i 0 less
 
-    -- what was settled from the frame's place on is known after
+    -- a file that was settled from the frame's lowest place on is closed afterwards
     settles : (n : ℕ) → IsSettled marks f.low n → (l : ℕ) × (mark_at after n ≡ Closed l) × (l ≤ count)
     settles n (closed k is) = (k, closed_before n k is, (let less = (was.known n k is).below in omega (arith, less)))
     settles n (opened i is above) =

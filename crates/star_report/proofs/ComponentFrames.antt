@@ -9,7 +9,7 @@ use Rattle.star_report.specs.Components.{LoadsLead, loaded_at}
 use Rattle.star_report.specs.Search.{AreFirstSettled, AreFrames, AreSettled, IsFrame, IsSettled, went_on}
 use Rattle.star_report.proofs.ComponentMarks.{settled_more, then}
 
--- what was settled is settled
+-- settled files stay settled
 abbrev pub StaySettled : List Mark → List Mark → Type 0
 StaySettled old new = (low n : ℕ) → IsSettled old low n → IsSettled new low n
 

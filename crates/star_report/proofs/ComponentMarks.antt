@@ -1,4 +1,4 @@
--- Marks of files, and how many are left.
+-- Marks of files, and the number of files left.
 use Rattle.std.proofs.Common.{arith, ◌≡◌, ◌≢◌, ◌<◌, ◌≤◌, ◌+◌, ◌⊎◌, inl, inr, ℕ, zero, suc, List, [], ◌∷◌, length, get_or, set, replicate, refl, ap, sym, subst, ◌∙◌}
 use Rattle.std.proofs.lemmas.Bool.{cases_eq, cases_lt}
 use Rattle.std.proofs.lemmas.List.{get_or-set_other, get_or-set_same, get_or_past, length-set}
@@ -33,7 +33,7 @@ module _ (marks : List Mark) (n place : ℕ) (new : mark_at marks n ≡ New) (in
   pub other_mark : (m : ℕ) → (m ≡ n → ⊥) → mark_at after m ≡ mark_at marks m
   other_mark m ne = get_or-set_other marks n m (Open place) New ne
 
-  -- what was found is not this file
+  -- a file that was found is not this file
   pub found_other : (m : ℕ) (x : Mark) → mark_at marks m ≡ x → (x ≡ New → ⊥) → m ≡ n → ⊥
   found_other m x is some e = some (sym is ∙ (ap (mark_at marks) e ∙ new))
 
@@ -85,7 +85,7 @@ first_weight weight New marks start = omega arith
 first_weight weight (Open i) marks start = omega arith
 first_weight weight (Closed i) marks start = omega arith
 
--- no more are left where what was found stays found
+-- no more is left if the files that were found stay found
 pub left_stays : (weight : ℕ → ℕ) (old new : List Mark) (start : ℕ) → length new ≡ length old → StayFound old new → left_from weight new start ≤ left_from weight old start
 left_stays weight old [] start size stay = omega arith
 left_stays weight [] (y ∷ new) start size stay = absurd (let no : ⊥ = omega (arith, size) in no)

@@ -91,7 +91,7 @@ taken_by_none row f old none was lower =
     let no : ⊥ = omega (arith, first, lower) in
     no
 
--- the open files from its own on are a component
+-- the open files from the frame's own file on are a component
 pub goes_closed_off : (row : Row) (f : Frame) (old new : Search) → Closes old f.place new → IsSearchingAt row f old → length (loaded_at row f.file) ≤ f.next → (f.low < f.place → ⊥) → Goes row f old new
 goes_closed_off row f old new by was all not_lower =
     let low = was.frames.0.low in

@@ -52,7 +52,7 @@ stated_all P (x ∷ xs) all = turn (is_some x.token) refl (stated_all P xs (λ i
     turn true is rest = All-append P (x.file ∷ []) (map (λ (l : Load). l.file) (filter (λ (l : Load). is_some l.token) xs)) (all_one P x.file (all 0 x (omega arith) is)) rest
     turn false is rest = rest
 
--- what holds of the files of all loads by statements holds of the targets
+-- a property of all files that load statements load is one of the targets
 pub targets_all : (P : ℕ → Type 0) (loads : List Load) → All (λ (l : Load). is_some l.token ≡ true → P l.file) loads → All P (targets loads)
 targets_all P loads all = insert_all_keeps P [] (map (λ (l : Load). l.file) (filter (λ (l : Load). is_some l.token) loads)) (none_fail P) (stated_all P loads all)
 
@@ -75,7 +75,7 @@ target_within row n m within there = All-contains (λ k. k < length row) (target
 pub module_good : (plan : Plan) (n : ℕ) (m : Module) → IsModule plan n m → (ended_well m.ended ≡ true) ↔ IsGood plan n
 module_good plan n m is = end_good plan n m.ended is.ended
 
--- where the loaded file leads back, the load lies on a cycle
+-- if the loaded file leads back, the load lies on a cycle
 back_says : (plan : Plan) (row : Row) (n m : ℕ) (b : Bool) → readings row ≡ plan.reads → Loads (loaded plan) n m → (b ≡ true) ↔ LeadsTo (Loads (loaded_at row)) m n → SaysCycle plan n m b
 back_says plan row n m b read load leads = (λ e. (load, forth (leads.0 e)), λ on. leads.1 (back on.1))
   where
@@ -88,7 +88,7 @@ back_says plan row n m b read load leads = (λ e. (load, forth (leads.0 e)), λ 
     back : LeadsTo (Loads (loaded plan)) m n → LeadsTo (Loads (loaded_at row)) m n
     back (k, w) = (k, Walk-fewer (Loads (loaded_at row)) (Loads (loaded plan)) (λ x y c. subst (λ ns. Contains ns y) (same x) c) k m n w)
 
--- where both files are of one component, it does
+-- if both files are in one component, it does
 pub one_says : (plan : Plan) (row : Row) (marks : List Mark) (n m : ℕ) (b : Bool) → readings row ≡ plan.reads → AreComponents row marks → n < length row → m < length row → Loads (loaded plan) n m → (b ≡ true) ↔ AreOne marks n m → SaysCycle plan n m b
 one_says plan row marks n m b read all n_in m_in load says =
     back_says plan row n m b read load (λ e. ((all n m n_in m_in).0 (says.0 e)).1, λ back. says.1 ((all n m n_in m_in).1 ((1, (m, there, refl)), back)))

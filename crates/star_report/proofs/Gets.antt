@@ -51,11 +51,11 @@ ended_has files plan n (Good b) name planned is =
     let body = arc_value b in
     (Ran (WentWell is.shelf is.globals (shown_texts body.shown.items) body.lines.items), is.outcome, sym (stored_is files plan n body planned is name))
 
--- a module has what its file has for a name
+-- a module has the same answer for a name as its file
 pub module_has : (files : List File) (plan : Plan) (n : ℕ) (m : Module) (name : List ℕ) → IsPlanOf files plan → IsModule plan n m → HasGot plan name n (got_in (length files) m.number m.ended name)
 module_has files plan n m name planned is = subst (λ k. HasGot plan name n (got_in (length files) k m.ended name)) (sym is.number) (ended_has files plan n m.ended name planned is.ended)
 
--- a root whose module stands in the table has the JSON of that
+-- a root whose module is in the table has the JSON of this module
 pub json_has : {Z : Type 0} (files : List File) (plan : Plan) (table : Table) (root : ℕ) (m : Bor Module) (name : List ℕ) (r : Result (Vec ℕ Z) Lack) → IsPlanOf files plan → length files ≡ length table → IsTable plan table → slice_get table root ≡ Some (Some m)
     → IsJsonFor (got_in (length table) m.now.number m.now.ended name) r → HasJson plan name root r
 json_has files plan table root m name r planned size is there json =
@@ -109,7 +109,7 @@ split_at (x ∷ xs) (suc i) n less at =
     let same : drop (suc i + 1) (x ∷ xs) ≡ drop (i + 1) xs = ap (λ k. drop k (x ∷ xs)) (let e : suc i + 1 ≡ suc (i + 1) = omega arith in e) in
     ap (λ ys. x ∷ ys) (split_at xs i n (omega (arith, less)) at) ∙ ap (λ ys. x ∷ (take i xs ++ n ∷ ys)) (sym same)
 
--- a root that has none
+-- a root that has no data for the name
 pub first_lack : (Z : Type 0) (plan : Plan) (name roots : List ℕ) (i n : ℕ) (why : Lack) (old : List ℕ) → i < length roots → ((d : ℕ) → get_or roots i d ≡ n) → HasJson {Z = Z} plan name n (Err why) → SoFar plan name (take i roots) old → IsFirstLack plan name roots n why
 first_lack Z plan name roots i n why old less at json (ds, are, is) = record {
   before = take i roots;

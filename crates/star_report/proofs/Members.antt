@@ -98,7 +98,7 @@ by_pop : (o : Option ℕ) (old new first : List ℕ) → MatchOption o (old ≡ 
 by_pop None old new first h is = absurd (let no : [] ≡ 123 ∷ (first ++ 125 ∷ []) = sym h ∙ is in let none : ⊥ = cc in none)
 by_pop (Some n) old new first h is = ends_same new (123 ∷ first) n 125 (sym h ∙ is)
 
--- the text of an object, whose last byte was taken away, with a member more
+-- the text of an object, whose last byte was taken away, with one more member
 pub last_text : (k : List ℕ) (d e : Data) (ends : EndsIn k d) (o : Option ℕ) (old cut new : List ℕ) → old ≡ compact_text d → MatchOption o (old ≡ []) (λ n. old ≡ cut ++ n ∷ [])
     → new ≡ cut ++ 44 ∷ (quoted k ++ 58 ∷ (compact_text e ++ 125 ∷ [])) → new ≡ compact_text (put_in k e d)
 last_text k d e ends o old cut new is popped more =
@@ -118,7 +118,7 @@ before_last (member l d ms) k e h =
     let both = or_parts (has_float d) (members_have_float (and_last ms k e)) h in
     ap (λ b. b || members_have_float ms) both.0 ∙ before_last ms k e both.1
 
--- where an object with a member more has no float, the object has none
+-- if an object with one more member has no float, the object has none
 pub no_float_before : (k : List ℕ) (d e : Data) → EndsIn k d → has_float (put_in k e d) ≡ false → has_float d ≡ false
 no_float_before k d e ends h =
     let ms : Members = member ends.first ends.value ends.rest in
@@ -173,6 +173,6 @@ values_there b files n e good body wanted is same =
     ap (λ x. if x then values_in files n e else no_members) wanted
     ∙ (ap (values_in files n) is ∙ ap (λ x. value_members_by (stored_data files n x) (names_of x)) (sym same))
 
--- the text of data is that of the same data
+-- a text of data is a text of equal data
 pub same_text : (d e : Data) (t : List ℕ) → e ≡ d → (has_float d ≡ false → t ≡ compact_text d) → has_float e ≡ false → t ≡ compact_text e
 same_text d e t same h none = h (ap has_float (sym same) ∙ none) ∙ ap compact_text (sym same)

@@ -1,4 +1,4 @@
--- Where nothing more is wanted, the report is that of before.
+-- If nothing more is wanted, the report is the plain one.
 use Rattle.std.proofs.Common.{arith, ◌≡◌, ◌<◌, ℕ, zero, suc, List, [], ◌∷◌, ◌++◌, length, map, refl, ap, sym, subst, ◌∙◌}
 use Rattle.std.specs.Prelude.{codes, slice_index_or}
 use Rattle.std.specs.List.{All, filter}
@@ -18,7 +18,7 @@ Mores files plan fs = All (λ (f : Full). AreMore nothing_more files plan f.show
 abbrev modules_in : List Full → List Module
 modules_in fs = map (λ (f : Full). f.shown) fs
 
--- where nothing is wanted, nothing is more
+-- if nothing more is wanted, there are no further members
 no_more : (files : List File) (plan : Plan) (n : ℕ) (ms : Members) → AreMore nothing_more files plan n ms → ms ≡ no_members
 no_more files plan n ms (l, s, v, a, b, c, is) = is ∙ (ap (λ x. followed x (followed s v)) a ∙ (ap (λ x. followed x v) b ∙ c))
 

@@ -1,4 +1,4 @@
--- One text for what is wanted.
+-- One text of the report for given options.
 use Rattle.std.proofs.Common.{arith, ◌≡◌, ℕ, zero, suc, Bool, true, false, List, [], ◌∷◌, ◌-◌, Some, codes, map, refl, ap, sym, subst, ◌∙◌}
 use Rattle.std.specs.List.{All}
 use Rattle.serde_json.specs.Data.{Members, member, no_members, number, unsigned}

@@ -1,4 +1,4 @@
--- What was read of files is what the plan has of them.
+-- The readings of files are those that the plan has.
 use Rattle.std.proofs.Common.{arith, ◌≡◌, ◌<◌, ℕ, zero, suc, List, [], ◌∷◌, Option, length, refl, ap, sym}
 use Rattle.std.specs.Prelude.{IsSome, slice_index_or}
 use Rattle.std.proofs.lemmas.Bool.{true≢false}
@@ -11,7 +11,7 @@ use Rattle.star_reading.specs.Readings.{Row, loads_at, read_at, readings}
 use Rattle.star_reading.proofs.Plans.{planned_so}
 use Rattle.star_report.specs.Shelf.{LeadToFiles}
 
--- what was read of a plan's files is what the plan has
+-- the readings of a plan's files are those that the plan has
 pub read_plan : (files : List File) (row : Row) (plan : Plan) → IsOrdered files → IsPlanOf files plan → IsReadOf files plan.roots plan.prelude row → readings row ≡ plan.reads
 read_plan files row plan ordered planned (block, prelude_is, rows) =
     let q : Plan = record { roots = plan.roots; prelude = plan.prelude; steps = plan.steps; reads = readings row } in
@@ -23,7 +23,7 @@ there [] n h = absurd (true≢false (sym h))
 there (r ∷ row) zero h = omega arith
 there (r ∷ row) (suc n) h = let less : n < length row = there row n h in omega (arith, less)
 
--- the loads of what was read lead to files
+-- the loads of the read files lead to files
 pub lead_to_files : (files : List File) (roots : List ℕ) (prelude : Option ℕ) (row : Row) → IsReadOf files roots prelude row → LeadToFiles files row
 lead_to_files files roots prelude row (block, prelude_is, rows) n = λ i d less.
     let inside : (slice_index_or (loads_at row n) i d).file < length row = there row (slice_index_or (loads_at row n) i d).file (rows.closed.loads n i d less) in

@@ -1,4 +1,4 @@
--- The text of a report is what the texts of its modules make.
+-- The text of a report is made of the texts of its modules.
 use Rattle.std.proofs.Common.{arith, ◌≡◌, ◌<◌, ◌+◌, ◌≤◌, ℕ, zero, suc, Bool, true, false, ◌||◌, List, [], ◌∷◌, ◌++◌, map, take, length, get_or, Option, Some, None, IfOk, IfSome, IsSome, Result, Ok, Err, refl, ap, sym, subst, ◌∙◌, codes, Vec}
 use Rattle.std.specs.Prelude.{All, decimal, filter, slice_index_or, if◌then◌else◌}
 use Rattle.std.proofs.lemmas.Simd.{map-map}
@@ -44,7 +44,7 @@ pub listed_on : (first : List ℕ) (ts : List (List ℕ)) (t old new : List ℕ)
 listed_on first ts t old new later some none was now =
     now ∙ (ap (λ x. x ++ (comma_if later ++ t)) was ∙ (append_assoc first (listed false ts) (comma_if later ++ t) ∙ ap (λ x. first ++ x) (sym (listed_more ts t later some none))))
 
--- what holds of the texts of the pages so far, whether one stands there and what was written
+-- the texts of the pages so far, whether there is one, and the text that was written for them
 pub record SoFar (first : List ℕ) (ts : List (List ℕ)) (later : Bool) (all : List ℕ) : Type 0 where
   pub some : later ≡ true → 0 < length ts
   pub none : later ≡ false → length ts ≡ 0
@@ -88,7 +88,7 @@ shown_push (q ∷ ps) p = by q.shown (shown_push ps p)
     by true rest = ap (λ ts. page_text q ∷ ts) rest
     by false rest = rest
 
--- what is written for items
+-- the text that is written for items
 items_listed : (later : Bool) (ds : List Data) → items_text later (items_of ds) ≡ listed later (map compact_text ds) ++ 93 ∷ []
 items_listed later [] = refl
 items_listed later (d ∷ ds) =
@@ -96,7 +96,7 @@ items_listed later (d ∷ ds) =
     ap (λ x. comma_if later ++ (compact_text d ++ x)) (items_listed true ds)
     ∙ (ap (λ x. comma_if later ++ x) (sym (append_assoc (compact_text d) rest (93 ∷ []))) ∙ sym (append_assoc (comma_if later) (compact_text d ++ rest) (93 ∷ [])))
 
--- the text of a report by those of its modules
+-- the text of a report, by the texts of its modules
 pub report_joined : (wanted : Wanted) (files : List File) (plan : Plan) (begun : ℕ) (fs : List Full) → full_text wanted files plan begun fs ≡ joined_text begun (map compact_text (map (full_data files) (filter (is_shown wanted plan) fs)))
 unfolding serde_json_on_literals full_text
 report_joined wanted files plan begun fs =
@@ -108,7 +108,7 @@ report_joined wanted files plan begun fs =
 
 -- ---- the pages of modules
 
--- data whose texts these are, where they have no float
+-- data whose texts these are, if they have no float
 abbrev AreTextsOf : List (List ℕ) → List Data → Type 0
 AreTextsOf [] [] = Unit {0}
 AreTextsOf [] (d ∷ ds) = ⊥
@@ -157,11 +157,11 @@ written_known wanted files nexts (p ∷ ps) (q ∷ qs) written long =
     ap (λ m. Some m.now ∷ map known_of qs) (written 0 p (omega arith)).same
     ∙ ap (λ x. known_of p ∷ x) (written_known wanted files nexts ps qs (λ i d less. written (suc i) d (omega (arith, less))) (omega (arith, long)))
 
--- pages that were written, and have texts, have those of their modules
+-- pages that were written, and have texts, have the texts of their modules
 pub written_have : (wanted : Wanted) (files : List File) (nexts : Nexts) (old new : List Page) → AreWritten wanted files nexts old new → length new ≡ length old → All (λ (p : Page). IsSome p.text) new → All (HasText wanted files nexts) new
 written_have wanted files nexts old new written long some = λ i d less. ((written i d (omega (arith, less, long))).text, some i d less)
 
--- pages that were written say what they said
+-- pages that were written still say right whether their modules are shown
 written_says : (wanted : Wanted) (files : List File) (plan : Plan) (nexts : Nexts) (old new : List Page) → All (SaysShown wanted plan.roots) old → AreWritten wanted files nexts old new → length new ≡ length old → All (SaysShown wanted plan.roots) new
 written_says wanted files plan nexts old new says written long = λ i d less. (
     let inside : i < length old = omega (arith, less, long) in
@@ -170,7 +170,7 @@ written_says wanted files plan nexts old new says written long = λ i d less. (
     w.shown ∙ (was ∙ ap (λ m. is_shown_by wanted plan.roots (ended_well m.now.ended) m.now.number) (sym w.same))
     )
 
--- pages that were written have the loads that they had
+-- pages that were written still have the loads of their modules' files
 written_loads : (wanted : Wanted) (files : List File) (row : Row) (nexts : Nexts) (old new : List Page) → All (HasItsLoads row) old → AreWritten wanted files nexts old new → length new ≡ length old → All (HasItsLoads row) new
 written_loads wanted files row nexts old new has written long = λ i d less. (
     let inside : i < length old = omega (arith, less, long) in
@@ -178,7 +178,7 @@ written_loads wanted files row nexts old new has written long = λ i d less. (
     ap (λ l. l.now) w.loads ∙ (has i d inside ∙ ap (λ m. loads_at row m.now.number) (sym w.same))
     )
 
--- those of two rows that are kept are as alike as the rows are, where the same are kept
+-- two rows that are alike still are if the same items of both are kept
 both_kept : {X Y Z : Type 0} (f : X → Z) (g : Y → Z) (x : X) (y : Y) (xs : List X) (ys : List Y) (b c : Bool) → b ≡ c → f x ≡ g y → map f xs ≡ map g ys → map f (if b then x ∷ xs else xs) ≡ map g (if c then y ∷ ys else ys)
 both_kept f g x y xs ys true true e one rest = ap (λ z. z ∷ map f xs) one ∙ ap (λ zs. g y ∷ zs) rest
 both_kept f g x y xs ys false false e one rest = rest
@@ -224,7 +224,7 @@ module _ (wanted : Wanted) (files : List File) (row : Row) (plan : Plan) (nexts 
       subst Shown (let on : i + 1 ≡ suc i = omega arith in on)
       (shown_next same has says loaded planned read are nexts_are i (omega (arith, le)) (omega (arith, small)) (shown_to same has says loaded planned read are nexts_are i (omega (arith, le)) (omega (arith, small))))
 
-  -- what the texts of all pages make is the text of the report
+  -- the joined texts of all pages are the text of the report
   pub pages_report : map known_of ps ≡ map (λ (k : KeptView). k.known) ks → All (HasText wanted files nexts) ps → All (SaysShown wanted plan.roots) ps → All (HasItsLoads row) ps → IsPlanOf files plan → readings row ≡ plan.reads → AreModules plan ks → AreNextsOf plan nexts → (begun : ℕ) → IsReportBut wanted files plan (length ks) begun (joined_text begun (shown_texts_of ps))
   pages_report same has says loaded planned read are nexts_are begun =
       let long : length ps ≡ length ks = sym (length-map ps known_of) ∙ (ap length same ∙ length-map ks (λ (k : KeptView). k.known)) in
@@ -240,7 +240,7 @@ module _ (wanted : Wanted) (files : List File) (row : Row) (plan : Plan) (nexts 
       filtered page_text (λ (p : Page). p.shown) (λ (f : Full). compact_text (full_data files f)) (is_shown wanted plan) ps fs texts shown.shown_are ∙ sym (map-map compact_text (full_data files) (filter (is_shown wanted plan) fs)) in
       record { fulls = fs; report = report_shown wanted files plan ks all.0 (map (λ (p : Page). p.shown) ps) are shown; more = shown.more; text_is = ap (joined_text begun) kept ∙ sym (report_joined wanted files plan begun fs) }
 
--- what is written for the pages of a run's modules is the text of its report
+-- the text that is written for the pages of a run's modules is the text of its report
 pub pages_text : (wanted : Wanted) (files : List File) (row : Row) (plan : Plan) (nexts : Nexts) (ks : List KeptView) (old new : List Page) (begun : ℕ) (text : List ℕ) → map known_of old ≡ map (λ (k : KeptView). k.known) ks → All (SaysShown wanted plan.roots) old → All (HasItsLoads row) old → AreWritten wanted files nexts old new → length new ≡ length old
     → All (λ (p : Page). IsSome p.text) new → text ≡ joined_text begun (shown_texts_of new) → IsPlanOf files plan → readings row ≡ plan.reads → AreModules plan ks → AreNextsOf plan nexts → IsReportBut wanted files plan (length ks) begun text
 pages_text wanted files row plan nexts ks old new begun text known says loaded written long some is planned read are nexts_are =

@@ -36,11 +36,11 @@ use Rattle.star_outcome.specs.declared.module.Module.{Module}
 
 -- ---- one module
 
--- a file whose first load that is not good stands somewhere is not good itself
+-- a file with a first load that is not good is not good itself
 bad_load : (plan : Plan) (n index : ℕ) → IsFirstBad plan (loaded plan n) index → IsGood plan n → ⊥
 bad_load plan n index bad good = no_bad plan good.0 n good.1.0 index (good_is (result plan good.0 n) good.1.0 good.1.1) bad
 
--- a value that shows how a file ended is that of its module in the report
+-- a value that shows how a file ended is the value of its module in the report
 pub one_shown : (files : List File) (plan : Plan) (nexts : Nexts) (n : ℕ) (e : Ended) (v : Value) → IsPlanOf files plan → AreNextsOf plan nexts → IsReached plan n → IsEnd plan n e → IsShown files nexts n e v
     → (r : ReportEnded) × IsEnded plan n r × (view v ≡ ended_data files (label_at files n) r) × (is_ok r ≡ ended_well e)
 one_shown files plan nexts n (Static f) v planned are reached is shown = (HadStatic (fault_of f), is, shown, refl)

@@ -1,4 +1,4 @@
--- The shelf of a module's stores has what the module's own has.
+-- Values lead to the same cells by a module's stores and by the module's own shelf.
 use Rattle.std.proofs.Common.{arith, ◌≡◌, ◌<◌, ℕ, zero, suc, Bool, true, false, nat_eq, List, [], ◌∷◌, fold, map, length, Option, Some, None, refl, ap, sym, subst, ◌∙◌, ◌⊎◌, inl, inr, if◌then◌else◌, eqb-true}
 use Rattle.std.specs.Arc.{arc_value}
 use Rattle.std.specs.Prelude.{String, codes, filter, is_some, not, ◌&&◌, option_and_then, slice_get, slice_index_or, string_bytes}
@@ -113,7 +113,7 @@ are_good plan d (n ∷ ns) (m ∷ ms) e =
     let fine : if_good (Some m) ≡ Some m = ap if_good (sym is) ∙ (first.1 ∙ ap Some head) in
     ((d, is), well m fine, are_good plan d ns ms (rest.1 ∙ ap Some tail))
 
--- what a good result comes from
+-- the run that a good result comes from
 record Run (plan : Plan) (n : ℕ) (m : Local) : Type 0 where
   depth : ℕ
   statements : List Statement
@@ -134,7 +134,7 @@ run_of plan (suc d) n m e good =
 own_there : (plan : Plan) (d n : ℕ) (m : Local) → result plan d n ≡ Some m → (r : Run plan n m) → slice_get (reached m) n ≡ Some (Some (own_module r.run.ended r.run.state))
 own_there plan d n m e r = run-own plan r.depth n r.statements r.loads m r.run r.all
 
--- each file to which the file leads stands there by its own module
+-- the own module of each file that the file leads to is there
 shelf_has : (plan : Plan) (d n : ℕ) (m : Local) → result plan d n ≡ Some m → Run plan n m → (k : ℕ) (p : Published) → LeadsTo (Loads (loaded plan)) n k → IsOwn plan k p → slice_get (reached m) k ≡ Some (Some p)
 shelf_has plan d n m e r k p (zero, walk) own =
     let at = own_there plan d n m e r in
@@ -221,7 +221,7 @@ module _ (plan : Plan) (d n : ℕ) (m : Local) (e : result plan d n ≡ Some m) 
       ap (λ cs. option_map (λ (c : HeapCell). c.cell) (slice_get cs at)) (sym none)
   cell_by files planned false home at is = ap (λ cs. option_map (λ (c : HeapCell). c.cell) (slice_get cs at)) (same_cells home)
 
-  -- what a value leads to by the stores is what it leads to on the shelf
+  -- a value leads to the same cell by the stores and on the shelf
   same_look : (files : List File) → IsPlanOf files plan → (v : Value) → look (record { home = length files; cells = [] }) (fold seated [] rs) v ≡ on_shelf (reached m) v
   same_look files planned (value.Ref home at) = cell_by files planned (nat_eq home (length files)) home at refl
   same_look files planned value.NoneValue = refl
@@ -314,7 +314,7 @@ steps_has plan n (Unloaded index line) is = (UnloadedOutcome index, is.0, refl)
 steps_has plan n (Stopped code line lines trail) is = (Ran (HadFault (record { code = code; line = line }) lines.items), is, refl)
 steps_has plan n (Well b) is = (Ran (Good is.shelf is.globals (shown_texts (arc_value b).shown.items) (arc_value b).lines.items), is.outcome, ((arc_value b).paid, is.paid, refl))
 
--- what is wanted more of a module, by what was read and by its stores, is that of its file
+-- the further members of a module, by what was read and by its stores, are those of its file
 pub more_is : (wanted : Wanted) (files : List File) (row : Row) (plan : Plan) (n : ℕ) (m : Module) (loads : List Load) → IsPlanOf files plan → readings row ≡ plan.reads → loads ≡ loads_at row m.number → IsModule plan n m → AreMore wanted files plan n (more_of wanted files loads m)
 more_is wanted files row plan n m loads planned read own is = (
   loads_part wanted files loads,

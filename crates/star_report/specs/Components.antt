@@ -10,11 +10,11 @@ use Rattle.star_report.specs.declared.components.Mark.TheVariants.{New, Closed}
 abbrev pub loaded_at : Row → ℕ → List ℕ
 loaded_at row n = map (λ l. l.file) (loads_at row n)
 
--- a file leads to another, in no load or more
+-- a file leads to another by zero or more loads
 abbrev pub LoadsLead : Row → ℕ → ℕ → Type 0
 LoadsLead row n m = LeadsTo (Loads (loaded_at row)) n m
 
--- what is known of a file
+-- the mark of a file
 abbrev pub mark_at : List Mark → ℕ → Mark
 mark_at marks n = get_or marks n New
 

@@ -32,11 +32,11 @@ abbrev pub SayCycles : Row → Module → List Edge → Type 0
 SayCycles row it edges =
     InReadPlans row (λ plan. IsModule plan it.number it → All (λ e. SaysCycle plan it.number e.to e.on_cycle) edges)
 
--- edges lead to so many files
+-- edges lead to files below this number
 abbrev pub EndWithin : ℕ → List Edge → Type 0
 EndWithin count edges = All (λ e. e.to < count) edges
 
--- nodes, and what their edges lead to, are among so many files
+-- the files of nodes, and those that their edges lead to, are below this number
 abbrev pub AreNodesWithin : ℕ → List Node → Type 0
 AreNodesWithin count nodes = All (λ v. (v.file < count) × EndWithin count v.edges.items) nodes
 
@@ -48,7 +48,7 @@ pub record IsGraphBelow (plan : Plan) (count : ℕ) (nodes : List graph.Node) : 
   pub listed : AreListed plan count (map (λ v. v.file) nodes)
   pub each : All (IsNode plan) nodes
 
--- the file after those of a graph has this entry in the table of modules: with its node the graph goes on
+-- the file after the files of a graph has this entry in the table of modules. With its node the graph goes on
 abbrev pub IsNextNode : Plan → Option (Bor Module) → List Node → List Node → Type 0
 IsNextNode plan entry old new =
     (table : Table) (n : ℕ) → IsTable plan table → slice_get table n ≡ Some entry

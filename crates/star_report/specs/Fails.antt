@@ -11,7 +11,7 @@ use Rattle.star_outcome.specs.Kept.{AreModules, KeptView}
 abbrev pub AreBelow : ℕ → Nexts → Type 0
 AreBelow count nexts = (n m : ℕ) → Goes nexts n m → m < count
 
--- each next file is the one by which its file fails, and those of the files of the first so many notes are there
+-- the next file of a file is the one by which it fails, and the files of the first `count` notes have their next files
 pub record AreFailsBelow (plan : Plan) (ks : List KeptView) (count : ℕ) (nexts : Nexts) : Type 0 where
   pub right : (n m : ℕ) → Goes nexts n m → FailsBy plan n m
   pub all : (k : ℕ) (d : KeptView) → k < count → (m : ℕ) → FailsBy plan (slice_index_or ks k d).number m

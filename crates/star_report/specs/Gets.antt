@@ -26,12 +26,12 @@ IsJsonFor (Ok d) (Err why) = ⊥
 IsJsonFor (Err lack) (Ok t) = ⊥
 IsJsonFor (Err lack) (Err why) = lack ≡ why
 
--- what the file n has for a name, where its store is on a shelf
+-- the answer of the file n for a name, if its store is on a shelf
 abbrev pub got_among : Store → Shelf → ℕ → List ℕ → Result Data Lack
 got_among s shelf n name =
     data_got (look s shelf) (public_global (globals_in (option_flatten (slice_get shelf n))) name)
 
--- the same by the stores of a module: where there are so many files, none has that number
+-- the same by the stores of a module. The home is the number of all files, which no file has
 abbrev pub got_stored : ℕ → ℕ → Body → List ℕ → Result Data Lack
 got_stored files n b name = got_among (record { home = files; cells = [] }) (shelf_in b) n name
 
@@ -39,7 +39,7 @@ abbrev pub got_in : ℕ → ℕ → Ended → List ℕ → Result Data Lack
 got_in files n (Good b) name = got_stored files n (arc_value b) name
 got_in files n e name = Err NotOk
 
--- so it is in each plan of so many files whose modules these are
+-- this holds in each plan of as many files as the table has places, whose modules these are
 abbrev pub InPlans : Table → (Plan → Type 0) → Type 0
 InPlans table P =
     (files : List File) (plan : Plan) → IsPlanOf files plan → length files ≡ length table → IsTable plan table → P plan
@@ -53,7 +53,7 @@ abbrev pub GotFor : Plan → List ℕ → Got → Type 0
 GotFor plan name (Lines text) = (ds : List Data) × AreGot plan name plan.roots ds × (text.items ≡ got_text ds)
 GotFor plan name (Lacking root why) = IsFirstLack plan name plan.roots root why
 
--- a file that has none is one of these
+-- a file without data is one of these
 abbrev pub IsLackAmong : List ℕ → Got → Type 0
 IsLackAmong roots (Lines text) = Unit {0}
 IsLackAmong roots (Lacking root why) = Contains roots root

@@ -14,7 +14,7 @@ use Rattle.star_plan.specs.Results.{IsOutcome, Outcome, Ran}
 use Rattle.star_report.specs.declared.got.Lack.{Lack}
 use Rattle.star_report.specs.declared.got.Lack.TheVariants.{NoData, NoGlobal, NotOk}
 
--- the global with a name: none where the name is private
+-- the global with a name: none if the name is private
 abbrev pub public_global : List (List ℕ × Value) → List ℕ → Option Value
 public_global globals name = if is_private name then None else global_of name globals
 
@@ -28,12 +28,12 @@ abbrev pub data_got : (Value → Option Cell) → Option Value → Result Data L
 data_got look (Some v) = data_or (data_of look most_levels v)
 data_got look None = Err NoGlobal
 
--- what a file has for a name, by its outcome
+-- the answer of a file for a name, by its outcome
 abbrev pub got_of : List ℕ → Outcome → Result Data Lack
 got_of name (Ran (Good shelf globals texts lines)) = data_got (on_shelf shelf) (public_global globals name)
 got_of name o = Err NotOk
 
--- a file of a plan has this for a name
+-- a file of a plan has this answer for a name
 abbrev pub HasGot : Plan → List ℕ → ℕ → Result Data Lack → Type 0
 HasGot plan name n r = (o : Outcome) × IsOutcome plan n o × (got_of name o ≡ r)
 
@@ -57,7 +57,7 @@ pub record IsFirstLack (plan : Plan) (name : List ℕ) (files : List ℕ) (n : �
 abbrev pub got_text : List Data → List ℕ
 got_text ds = flat_map (λ d. compact_text d ++ 10 ∷ []) ds
 
--- what is said of the first file that has no data
+-- the reason in the message about the first file that has no data
 abbrev pub lack_text : Lack → List ℕ
 lack_text NotOk = codes "not ok"
 lack_text NoGlobal = codes "no such global"

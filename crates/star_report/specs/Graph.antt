@@ -35,12 +35,12 @@ pub record IsGraph (plan : Plan) (nodes : List Node) : Type 0 where
   pub all : (n : ℕ) → IsReached plan n ↔ Contains (map (λ v. v.file) nodes) n
   pub each : All (IsNode plan) nodes
 
--- what is not ok is filled
+-- a file that is not ok is filled
 abbrev pub node_line : List File → Node → List ℕ
 node_line files v =
     codes "  " ++ (quoted (label_at files v.file) ++ (if v.is_ok then codes ";\n" else codes " [style=filled];\n"))
 
--- what lies on a cycle is red
+-- an edge that lies on a cycle is red
 abbrev pub edge_line : List File → ℕ → Edge → List ℕ
 edge_line files n e =
     codes "  " ++ (quoted (label_at files n) ++ (codes " -> " ++ (quoted (label_at files e.to)

@@ -1,4 +1,4 @@
--- Laws of the report with what is wanted more of each module.
+-- Laws of the report with the further members that are wanted of each module.
 use Rattle.std.specs.Prelude.{◌≡◌, ◌↔◌, ◌⊎◌, ◌+◌, ℕ, Bool, true, false, not, List, Option, Some, None, Contains, is_some, length, map}
 use Rattle.std.specs.List.{filter}
 use Rattle.serde_json.specs.Data.{Data}
@@ -23,24 +23,24 @@ use Rattle.star_report.specs.Wanted.{IsFullText, nothing_more}
 use Rattle.star_report.specs.declared.wanted.Output.TheVariants.{Report}
 use Rattle.star_report.specs.declared.wanted.Wanted.{Wanted}
 
--- where nothing more is wanted, the report is that of before
+-- if nothing more is wanted, the report is the plain one
 abbrev pub NothingMore : Type 0
 NothingMore =
     (files : List File) (plan : Plan) (text : List ℕ) → IsFullText nothing_more files plan text
     ↔ IsReportText files plan text
 
--- a plan has at most one report with what is wanted
+-- a plan has at most one report for given options
 abbrev pub OneFullText : Type 0
 OneFullText = (wanted : Wanted) (files : List File) (plan : Plan) (a b : List ℕ) → IsFullText wanted files plan a
     → IsFullText wanted files plan b → a ≡ b
 
--- where nothing more is wanted, what is written is the report of before
+-- if nothing more is wanted, the plain report is written
 abbrev pub ReportAsBefore : Type 0
 ReportAsBefore =
     (files : List File) (plan : Plan) (text : List ℕ) (ok : Bool) → IsOutput (Report nothing_more) files plan text ok
     ↔ (IsReportText files plan text × IsAnswer plan ok)
 
--- an edge stands at the node of a file
+-- the node of a file has an edge to another file
 abbrev pub HasEdge : List Node → ℕ → ℕ → Type 0
 HasEdge nodes n m = (v : Node) × Contains nodes v × (v.file ≡ n) × Contains (map (λ e. e.to) v.edges) m
 
@@ -50,14 +50,14 @@ EdgesAreLoads =
     (plan : Plan) (nodes : List Node) → IsGraph plan nodes → (n m : ℕ) → HasEdge nodes n m
     ↔ (IsReached plan n × ((l : Load) × Contains (loads_of plan n) l × (is_some l.token ≡ true) × (l.file ≡ m)))
 
--- each stands once
+-- no edge of a node comes twice
 abbrev pub EdgesStandOnce : Type 0
 EdgesStandOnce =
     (plan : Plan) (nodes : List Node) → IsGraph plan nodes → (v : Node) → Contains nodes v
     → AllDiffer (map (λ e. e.to) v.edges)
 
--- what becomes of a name among those of a module's globals, where the globals have these data: unless it is private, it
--- is a member of the values, with its data, or it stands among the names of those that have none; and no other does
+-- the names of a module's globals, which have these data. A name that is not private is a member of the values, with
+-- its data, or it is among the names of globals without data. No other name is in either
 pub record IsToldOnce (f : List ℕ → Option Data) (names : List (List ℕ)) (name : List ℕ) : Type 0 where
   pub told : Contains names name → is_private name ≡ false
       → ((d : Data) × (get_member name (shown_values f names) ≡ Some d)) ⊎ Contains (opaque_names f names) name
@@ -74,7 +74,7 @@ AreToldOnce f names =
     member_count (shown_values f names) + length (opaque_names f names)
     ≡ length (filter (λ n. not (is_private n)) names)
 
--- no global of a file that ended well is told twice
+-- no global of a file that ended well is reported twice
 abbrev pub NoneTwice : Type 0
 NoneTwice =
     (plan : Plan) (n : ℕ) (shelf : Shelf) (globals : List (List ℕ × Value)) (texts : List (List ℕ × List ℕ))

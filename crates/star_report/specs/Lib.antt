@@ -1,5 +1,5 @@
--- Words of the contracts of the report; its text is `Text` of star_plan. Wanted, Got, Graph and Output define what the
--- options add.
+-- Words of the contracts of the report, whose text is `Text` of star_plan. Wanted, Got, Graph and Output define the
+-- additions of the options.
 pub mod Fails
 pub mod Shown
 pub mod Pages

@@ -13,15 +13,14 @@ use Rattle.star_report.specs.declared.got.Lack.{Lack}
 use Rattle.star_report.specs.declared.wanted.Output.{Output}
 use Rattle.star_report.specs.declared.wanted.Output.TheVariants.{Check, Global, Graph, Report}
 
--- the answer is whether each of the modules, which are those of exactly the reached files, each with its file's
--- outcome, is good
+-- the answer is whether all modules are good: those of exactly the reached files, each with its file's outcome
 abbrev pub IsAnswer : Plan → Bool → Type 0
 IsAnswer plan ok =
     (modules : List KeptView) × AreModules plan modules × (ok ≡ true → AllGood modules)
     × (ok ≡ false → AllGood modules → ⊥)
 
--- this text is written, and so answered; where globals are wanted, the answer is whether each root has its own, and
--- nothing is written where one has none
+-- this text is written, with this answer. If globals are wanted, the answer is whether each root has its own, and
+-- nothing is written if one has none
 abbrev pub IsOutput : Output → List File → Plan → List ℕ → Bool → Type 0
 IsOutput (Report wanted) files plan text ok = IsFullText wanted files plan text × IsAnswer plan ok
 IsOutput (Global name) files plan text true =
@@ -31,7 +30,7 @@ IsOutput (Global name) files plan text false =
 IsOutput Graph files plan text ok = IsGraphText files plan text × IsAnswer plan ok
 IsOutput (Check only_roots) files plan text ok = IsCheckText only_roots files plan text × IsCheckAnswer plan ok
 
--- this is said beside it: of the first root that has no global, which that is, and why
+-- this message is written beside it: the first root that has no global as data, and why
 abbrev pub IsSaid : Output → List File → Plan → Bool → List ℕ → Type 0
 IsSaid (Report wanted) files plan ok line = line ≡ []
 IsSaid (Global name) files plan true line = line ≡ []
@@ -40,7 +39,7 @@ IsSaid (Global name) files plan false line =
 IsSaid Graph files plan ok line = line ≡ []
 IsSaid (Check only_roots) files plan ok line = line ≡ []
 
--- so it is in the plan that files have for roots, a prelude and a number of steps
+-- this holds in the plan that files have for roots, a prelude and a number of steps
 abbrev pub InPlanOf : List File → List ℕ → Option ℕ → ℕ → (Plan → Type 0) → Type 0
 InPlanOf files roots prelude steps P =
     (plan : Plan) × IsPlanOf files plan × (plan.roots ≡ roots) × (plan.prelude ≡ prelude) × (plan.steps ≡ steps) × P plan

@@ -16,17 +16,17 @@ use Rattle.star_outcome.specs.Views.{ended_well}
 use Rattle.star_outcome.specs.declared.module.Module.{Module}
 use Rattle.star_report.specs.declared.pages.Page.{Page}
 
--- a text is that of a value which shows a module, with what is wanted more of it
+-- a text is the text of a value that shows a module, with the further members that are wanted
 abbrev pub IsTextOf : Wanted → List File → Nexts → List Load → Module → List ℕ → Type 0
 IsTextOf wanted files nexts loads m text =
     (v : Value) × IsShown files nexts m.number m.ended v
     × IsDataText (added (more_of wanted files loads m) (view v)) text
 
--- the module that a page is about, as what a note of it knows
+-- the module that a page is about, as a note knows it
 abbrev pub known_of : Page → Option Module
 known_of p = Some p.about.now
 
--- a page was written: where it has a text, that is its module's
+-- a page was written: if it has a text, it is the text of its module
 pub record IsWritten (wanted : Wanted) (files : List File) (nexts : Nexts) (old new : Page) : Type 0 where
   pub same : new.about ≡ old.about
   pub loads : new.loads ≡ old.loads
@@ -53,11 +53,11 @@ page_text p = text_in p.text
 abbrev pub shown_texts_of : List Page → List (List ℕ)
 shown_texts_of ps = map page_text (filter (λ p. p.shown) ps)
 
--- whether a page says right whether its module is shown
+-- a page says right whether its module is shown
 abbrev pub SaysShown : Wanted → List ℕ → Page → Type 0
 SaysShown wanted roots p = p.shown ≡ is_shown_by wanted roots (ended_well p.about.now.ended) p.about.now.number
 
--- texts with a comma before each but the first, where none stands before them
+-- texts with a comma before each, except before the first if no text comes before it
 abbrev pub listed : Bool → List (List ℕ) → List ℕ
 listed later [] = []
 listed later (t ∷ ts) = comma_if later ++ (t ++ listed true ts)

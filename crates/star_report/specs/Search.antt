@@ -50,8 +50,8 @@ pub record IsKnown (row : Row) (marks : List Mark) (count n k : ℕ) : Type 0 wh
   pub below : k < count
   pub loads : (m : ℕ) → Loads (loaded_at row) n m → (l : ℕ) × (mark_at marks m ≡ Closed l) × (l ≤ k)
 
--- what is known on the way: of open files, earlier ones lead to later ones; of closed ones, those of one component lead
--- to each other
+-- the facts during the search: earlier open files lead to later ones, and closed files of one component lead to each
+-- other
 pub record IsSearch (row : Row) (marks : List Mark) (stack : List ℕ) (path : List Frame) (count : ℕ) : Type 0 where
   pub sized : length marks ≡ length row
   pub room : count + left_from (λ n. 1) marks 0 + length stack ≤ length marks
@@ -65,7 +65,7 @@ pub record IsSearch (row : Row) (marks : List Mark) (stack : List ℕ) (path : L
 abbrev pub IsSearching : Row → Search → Type 0
 IsSearching row s = IsSearch row s.marks.items s.stack.items (reverse s.path.items) s.count
 
--- so it is while the last frame is off the path
+-- these facts hold while the last frame is off the path
 abbrev pub IsSearchingAt : Row → Frame → Search → Type 0
 IsSearchingAt row f s = IsSearch row s.marks.items s.stack.items (f ∷ reverse s.path.items) s.count
 
@@ -126,7 +126,7 @@ left_in row s = left_of row s.marks.items (reverse s.path.items)
 abbrev pub left_at : Row → Frame → Search → ℕ
 left_at row f s = left_of row s.marks.items (f ∷ reverse s.path.items)
 
--- what was found stays found
+-- the files that were found stay found
 abbrev pub StayFound : List Mark → List Mark → Type 0
 StayFound old new = (n : ℕ) → mark_at new n ≡ New → mark_at old n ≡ New
 

@@ -23,7 +23,7 @@ abbrev pub globals_in : Option Published → List (List ℕ × Value)
 globals_in None = []
 globals_in (Some p) = p.globals
 
--- a name, where it is one of those sought
+-- a name, if it is one of those sought
 abbrev pub name_if : Bool → List ℕ → List (List ℕ)
 name_if b name = if b then name ∷ [] else []
 
@@ -39,7 +39,7 @@ names_in shown = map (λ g. string_bytes g.0) shown
 abbrev pub names_of : Body → List (List ℕ)
 names_of b = names_in b.shown.items
 
--- the name of a global that is no data
+-- the name of a global that is not data
 abbrev pub opaque_name : (List ℕ → Option Data) → List ℕ → List (List ℕ)
 opaque_name f name = name_if (is_opaque f name) name
 
@@ -47,11 +47,11 @@ opaque_name f name = name_if (is_opaque f name) name
 abbrev pub own_data : Store → Shelf → Option Published → List ℕ → Option Data
 own_data s shelf own = global_data (look s shelf) (globals_in own)
 
--- a global of the file n as data, by its name, where the file's store is on a shelf
+-- a global of the file n as data, by its name, if the file's store is on a shelf
 abbrev pub among_data : Store → Shelf → ℕ → List ℕ → Option Data
 among_data s shelf n = own_data s shelf (option_flatten (slice_get shelf n))
 
--- the same by the stores of a module: where there are so many files, none has that number
+-- the same by the stores of a module. The home is the number of all files, which no file has
 abbrev pub stored_data : ℕ → ℕ → Body → List ℕ → Option Data
 stored_data files n b = among_data (record { home = files; cells = [] }) (shelf_in b) n
 
@@ -76,12 +76,12 @@ steps_part wanted e = if wanted.steps then steps_in e else no_members
 abbrev pub values_part : Wanted → ℕ → ℕ → Ended → Members
 values_part wanted files n e = if wanted.values then values_in files n e else no_members
 
--- what is wanted more of a module, by its loads and by its stores
+-- the further members that are wanted of a module, by its loads and by its stores
 abbrev pub more_of : Wanted → List File → List Load → Module → Members
 more_of wanted files loads m =
     followed (loads_part wanted files loads)
     (followed (steps_part wanted m.ended) (values_part wanted (length files) m.number m.ended))
 
--- the loads of all that was read lead to files
+-- the loads of all read files lead to files
 abbrev pub LeadToFiles : List File → Row → Type 0
 LeadToFiles files row = (n : ℕ) → All (λ l. l.file < length files) (loads_at row n)

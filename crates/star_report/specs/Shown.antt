@@ -38,8 +38,8 @@ IsShown files nexts n (Stopped code line lines trail) v =
 IsShown files nexts n (Good body) v =
     view v ≡ well_data (label_at files n) (shown_texts (arc_value body).shown.items) (arc_value body).lines.items
 
--- these data are the modules of a plan of these files, each as it ended, with what is wanted more of it, and whether it
--- is shown: of the files of these notes, in their order
+-- these data are modules of a plan of these files: those of the files of these notes, in their order, each as it ended,
+-- with its further members. `shown` has for each whether it is shown
 pub record AreShown (wanted : Wanted) (files : List File) (plan : Plan) (ks : List KeptView) (ds : List Data)
     (shown : List Bool) : Type 0 where
   pub fulls : List Full
@@ -49,8 +49,8 @@ pub record AreShown (wanted : Wanted) (files : List File) (plan : Plan) (ks : Li
   pub data_are : ds ≡ map (full_data files) fulls
   pub shown_are : shown ≡ map (is_shown wanted plan) fulls
 
--- a text is that of the report of a plan, in which so many files are reached, but that it says how many were begun;
--- where as many are begun as are reached, it is that of the report with what is wanted (`IsFullText`)
+-- a text is the report of a plan with `reached` reached files, except that it says how many were begun. If as many are
+-- begun as are reached, it is the report with the wanted members (`IsFullText`)
 pub record IsReportBut (wanted : Wanted) (files : List File) (plan : Plan) (reached begun : ℕ) (text : List ℕ) : Type 0
   where
     pub fulls : List Full
@@ -58,7 +58,7 @@ pub record IsReportBut (wanted : Wanted) (files : List File) (plan : Plan) (reac
     pub more : All (λ f. AreMore wanted files plan f.shown.file f.more) fulls
     pub text_is : text ≡ full_text wanted files plan begun fulls
 
--- so it is in the plan that files have for roots, by what was read of them, where a run has its modules
+-- this holds in the plan that files have for roots, by what was read of them, if a run has its modules
 abbrev pub ReportsRun : Wanted → List File → Row → List ℕ → RunView → List ℕ → Type 0
 ReportsRun wanted files row roots run text =
     (plan : Plan) → IsPlanOf files plan → plan.roots ≡ roots → IsReadOf files roots plan.prelude row

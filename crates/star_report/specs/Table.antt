@@ -14,7 +14,7 @@ Table = List (Option (Bor Module))
 abbrev pub HasModule : Plan → Table → ℕ → Type 0
 HasModule plan table n = (m : Bor Module) × (slice_get table n ≡ Some (Some m)) × IsModule plan n m.now
 
--- what is there is right, and the files of the first so many notes are there
+-- each module in the table is right, and the files of the first `count` notes have theirs
 pub record IsTableBelow (plan : Plan) (ks : List KeptView) (count : ℕ) (table : Table) : Type 0 where
   pub right : (n : ℕ) (m : Bor Module) → slice_get table n ≡ Some (Some m) → IsReached plan n × IsModule plan n m.now
   pub all : (k : ℕ) (d : KeptView) → k < count → HasModule plan table (slice_index_or ks k d).number

@@ -27,13 +27,13 @@ IsTextFor None (Some t) = ⊥
 IsTextFor (Some d) None = ⊥
 IsTextFor (Some d) (Some t) = t.items ≡ compact_text d
 
--- one more text, where there is one, is that of a member: so it is unless an allocation failed
+-- one more text, if there is one, is added as the text of a member, unless an allocation failed
 abbrev pub PutsText : {Z T E : Type 0} → Option (Vec ℕ Z) → List ℕ → Texts Z → Texts Z → Result T E → Type 0
 PutsText text name old new result =
     (d : Option Data) (ms : Members) → IsTextFor d text → AreTexts old ms
     → OnOk result (AreTexts new (put_some name d ms))
 
--- so it is with a global, by its data
+-- the same for a global, by its data
 abbrev pub AddsText : {Z T E : Type 0} → (List ℕ → Option Data) → List ℕ → Texts Z → Texts Z → Result T E → Type 0
 AddsText f name old new result = (ms : Members) → AreTexts old ms → OnOk result (AreTexts new (with_value f ms name))
 
@@ -41,11 +41,11 @@ AddsText f name old new result = (ms : Members) → AreTexts old ms → OnOk res
 abbrev pub AddsNames : List (List ℕ) → List Value → List Value → Type 0
 AddsNames names old new = map view new ≡ map view old ++ map string names
 
--- a text is that of data, if no float is in them
+-- a text is the text of data, if they have no float
 abbrev pub IsDataText : Data → List ℕ → Type 0
 IsDataText d text = has_float d ≡ false → text ≡ compact_text d
 
--- so it is of data with one member more, an object of the members that have these texts
+-- a text is the text of data with one more member, which is an object of the members that have these texts
 abbrev pub IsTextWith : {Z : Type 0} → Data → List ℕ → Texts Z → List ℕ → Type 0
 IsTextWith d name texts text =
     has_float d ≡ false → (ms : Members) → AreTexts texts ms → text ≡ compact_text (put_in name (object ms) d)
@@ -60,7 +60,7 @@ abbrev pub and_last : Members → List ℕ → Data → Members
 and_last no_members k d = member k d no_members
 and_last (member l e ms) k d = member l e (and_last ms k d)
 
--- an object with some member, in which a name stands after all others
+-- an object with at least one member, in which this name comes after all others
 pub record EndsIn (k : List ℕ) (d : Data) : Type 0 where
   pub first : List ℕ
   pub value : Data

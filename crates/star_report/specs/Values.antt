@@ -1,4 +1,4 @@
--- The values that a module shows: those of its globals whose names do not begin with `_`.
+-- The values that a module shows: the values of its globals whose names do not begin with `_`.
 use Rattle.std.specs.Prelude.{ℕ, Bool, not, ◌&&◌, List, Option, Some, None, codes, fold, is_some, map, option_and_then, if◌then◌else◌}
 use Rattle.std.specs.List.{filter}
 use Rattle.serde_json.specs.Data.{Data, Members, array, member, no_members, object, put, string}
@@ -23,7 +23,7 @@ put_some name None ms = ms
 abbrev pub with_value : (List ℕ → Option Data) → Members → List ℕ → Members
 with_value f ms name = if is_private name then ms else put_some name (f name) ms
 
--- a name that is not private, of a global that is no data
+-- a name that is not private, of a global that is not data
 abbrev pub is_opaque : (List ℕ → Option Data) → List ℕ → Bool
 is_opaque f name = not (is_private name) && not (is_some (f name))
 
@@ -41,7 +41,7 @@ value_members_by f names =
     member (codes "opaque") (array (items_of (map string (opaque_names f names))))
     (member (codes "values") (object (shown_values f names)) no_members)
 
--- the members of a module that ended well; of another there are none
+-- the members of a module that ended well. Any other module has none
 abbrev pub value_members : Outcome → Members
 value_members (Ran (Good shelf globals texts lines)) =
     value_members_by (global_data (on_shelf shelf) globals) (map (λ g. g.0) texts)

@@ -15,7 +15,7 @@ use Rattle.star_outcome.specs.Paid.{HasPaid}
 use Rattle.star_report.specs.Values.{value_members}
 use Rattle.star_report.specs.declared.wanted.Wanted.{Wanted}
 
--- nothing more, of all modules
+-- no further members, and all modules
 abbrev pub nothing_more : Wanted
 nothing_more = record { values = false; loads = false; steps = false; only_roots = false }
 
@@ -39,7 +39,7 @@ loads_member files loads =
 abbrev pub HasLoads : List File → Plan → ℕ → Members → Type 0
 HasLoads files plan n ms = ms ≡ loads_member files (loads_of plan n)
 
--- the steps of a module that ended well; of another there are none
+-- the steps of a module that ended well. Any other module has none
 abbrev pub HasStepsAs : Plan → ℕ → Outcome → Members → Type 0
 HasStepsAs plan n (Ran (Good shelf globals texts lines)) ms =
     (paid : ℕ) × HasPaid plan n paid × (ms ≡ member (codes "steps") (number (unsigned paid)) no_members)
@@ -48,7 +48,7 @@ HasStepsAs plan n o ms = ms ≡ no_members
 abbrev pub HasSteps : Plan → ℕ → Members → Type 0
 HasSteps plan n ms = (o : Outcome) × IsOutcome plan n o × HasStepsAs plan n o ms
 
--- the values of a module, and the names of those that are no data
+-- the values of a module, and the names of those that are not data
 abbrev pub HasValues : Plan → ℕ → Members → Type 0
 HasValues plan n ms = (o : Outcome) × IsOutcome plan n o × (ms ≡ value_members o)
 
@@ -57,7 +57,7 @@ abbrev pub followed : Members → Members → Members
 followed no_members others = others
 followed (member k d ms) others = member k d (followed ms others)
 
--- the further members of a file's module: its loads, its steps and its values, where they are wanted
+-- the further members of a file's module: its loads, its steps and its values, if they are wanted
 abbrev pub AreMore : Wanted → List File → Plan → ℕ → Members → Type 0
 AreMore wanted files plan n ms =
     (l s v : Members) × AreWanted wanted.loads (HasLoads files plan n) l × AreWanted wanted.steps (HasSteps plan n) s
@@ -86,7 +86,7 @@ abbrev pub is_ok : Ended → Bool
 is_ok (WentWell texts lines) = true
 is_ok e = false
 
--- whether a module of a file is shown: all are, or the roots and what is not ok
+-- whether a module of a file is shown: all are, or the roots and all that are not ok
 abbrev pub is_shown_by : Wanted → List ℕ → Bool → ℕ → Bool
 is_shown_by wanted roots ok n = not wanted.only_roots || (not ok || list_any (nat_eq n) roots)
 
@@ -99,7 +99,7 @@ full_text wanted files plan begun fulls =
     (member (codes "modules") (array (items_of (map (full_data files) (filter (is_shown wanted plan) fulls))))
     no_members))) ++ 10 ∷ []
 
--- a text is the report of a plan, with what is wanted
+-- a text is the report of a plan, with the wanted members
 pub record IsFullText (wanted : Wanted) (files : List File) (plan : Plan) (text : List ℕ) : Type 0 where
   pub begun : ℕ
   pub fulls : List Full

@@ -9,7 +9,7 @@ ghost use Rattle.star_report.specs.declared.components.Mark.TheVariants.{New};
 use star_reading::reading::Reads;
 use std::alloc::{AllocError, Global};
 
-/// What is known of a file.
+/// The state of a file in the search.
 #[derive(Clone, Copy, Debug, PartialEq, Eq)]
 pub(crate) enum Mark {
     /// It has not been found yet.
@@ -40,7 +40,7 @@ pub(crate) struct Search {
     pub marks: Vec<Mark>,
     /// The open files, as they were found.
     pub stack: Vec<usize>,
-    /// The files whose loads are being followed; each loads the next.
+    /// The files whose loads are being followed. Each loads the next.
     pub path: Vec<Frame>,
     /// How many components have been found.
     pub count: usize,
@@ -79,7 +79,7 @@ impl Search {
         })
     }
 
-    /// Opens a file that is found; its loads are followed next.
+    /// Opens a file that is found. Its loads are followed next.
     fn enter(&mut self, n: usize) -> Result<(), AllocError>
         requires { n < length self.old.marks.items }
         ensures { OnOk result (Enters self.old n self.new) }

@@ -176,7 +176,7 @@ fn lines_of(
     Ok(Got::Lines(lines))
 }
 
-/// A line for each root of a run, in their order, with the JSON of its global of a name; or the first root without
+/// A line for each root of a run, in their order, with the JSON of its global of a name, or the first root without
 /// data, and why.
 pub fn globals_of(
     alloc: Global,

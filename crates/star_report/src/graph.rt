@@ -245,8 +245,9 @@ fn dot(alloc: Global, files: &Labels, nodes: &[Node]) -> Result<Vec<u8>, AllocEr
     Ok(text)
 }
 
-/// The graph of the loads of a run as DOT: a node for each reached file, filled where it is not ok, and an edge for each
-/// file that its load statements load, red where that load lies on a cycle of loads.
+/// The graph of the loads of a run as DOT. Each reached file has a node, which is filled if the file is not ok. The
+/// node has an edge for each file that the load statements of its file load. The edge is red if the load lies on a
+/// cycle of loads.
 pub fn graph(
     alloc: Global,
     files: &Labels,

@@ -1,4 +1,4 @@
-//! Laws of the report with what is wanted more of each module, and of the graph of loads.
+//! Laws of the report with the further members that are wanted of each module, and of the graph of loads.
 
 ghost use Rattle.star_report.specs.Laws.{EdgesAreLoads, EdgesStandOnce, NoneDropped, NoneTwice, NothingMore, OneFullText, ReportAsBefore};
 
@@ -7,7 +7,7 @@ pub fn nothing_more_wanted()
     ensures { NothingMore }
 {}
 
-/// A plan has at most one report with what is wanted.
+/// A plan has at most one report for given options.
 pub fn one_full_text()
     ensures { OneFullText }
 {}
@@ -27,8 +27,7 @@ pub fn edges_stand_once()
     ensures { EdgesStandOnce }
 {}
 
-/// Each public global is among the values, with its data, or among the opaque names; no other
-/// global is in either.
+/// Each public global is among the values, with its data, or among the opaque names. No other global is in either.
 pub fn none_dropped()
     ensures { NoneDropped }
 {}

@@ -20,7 +20,7 @@ use star_outcome::module::{Body, Ended, Module};
 use star_scope::loads::Load;
 use std::alloc::{AllocError, Global};
 
-/// An object with one more member; other JSON stays.
+/// An object with one more member. Other JSON stays as it is.
 fn with_member(alloc: Global, shown: Json, key: &str, json: Json) -> Result<Json, AllocError>
     ensures { IfOk result (λ v. view v ≡ put_in key.now (view json) (view shown)) }
 {

@@ -20,7 +20,7 @@ use std::thread;
 use std::thread::Threads;
 
 /// One more thread writes for each 16 modules.
-const SHARE: usize = 16;
+const MODULES_A_THREAD: usize = 16;
 
 /// A module with the loads of its file, whether it is shown, and its text once it is written; none if a growth was
 /// refused.
@@ -122,7 +122,7 @@ pub(crate) fn write_pages<R: Threads + Sync>(
     requires there { All (λ p. p.about.now.number < length files.now) pages.old }
     ensures { AreWritten wanted files.now causes.now pages.old pages.new }
 {
-    let threads = threads.min(pages.len() / SHARE + 1).max(1);
+    let threads = threads.min(pages.len() / MODULES_A_THREAD + 1).max(1);
     thread::for_each_mut(
         rt,
         pages,

@@ -30,7 +30,7 @@ use star_text::Text;
 use std::alloc::{AllocError, Global};
 use std::thread::Threads;
 
-/// What a report shows, and how many threads at most write it.
+/// The options of a report: the members and modules that it shows, and how many threads at most write it.
 #[derive(Clone, Copy, Debug, PartialEq, Eq)]
 pub struct ReportOptions {
     pub wanted: Wanted,

@@ -21,7 +21,7 @@ use star_store::values::Value;
 use star_text::Text;
 use std::alloc::{AllocError, Global};
 
-/// The most levels that a value whose text was made has.
+/// The largest number of levels of a value whose text was made.
 pub(crate) const LEVELS: u32 = 400;
 
 /// How many bytes more than its text the JSON of a global may have before it must move.
@@ -113,7 +113,7 @@ fn global_json<'a>(
     }
 }
 
-/// The JSON of a value; none if it has none. It has about `room` bytes; if it has more, it moves as it grows.
+/// The JSON of a value; none if it has none. It has about `room` bytes. If it has more, it moves as it grows.
 pub(crate) fn json_of<'a>(
     alloc: Global,
     arena: &'a Arena,

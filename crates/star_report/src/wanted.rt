@@ -8,7 +8,7 @@ pub struct Wanted {
     pub values: bool,
     /// The files that its load statements load, each with its label and the line of the statement.
     pub loads: bool,
-    /// The steps that it has paid, where it is ok.
+    /// The steps that it has paid, if it is ok.
     pub steps: bool,
     /// Of the modules that are ok, only the roots are shown.
     pub only_roots: bool,
@@ -24,7 +24,7 @@ impl Wanted {
     };
 }
 
-/// What is written of a run.
+/// The output of a run.
 #[derive(Debug, Drop)]
 pub enum Output {
     /// The report, with the further members that are wanted.
@@ -33,7 +33,7 @@ pub enum Output {
     Global(String),
     /// The graph of loads.
     Graph,
-    /// The check of the files before any runs (`star_check`), and whether of the files with nothing against them only the
-    /// roots are shown.
+    /// The check of the files before any runs (`star_check`). `only_roots` says whether only the roots are shown of the
+    /// files with nothing against them.
     Check { only_roots: bool },
 }

@@ -15,7 +15,7 @@ at_token (e ∷ es) [] (suc t) = at_token es [] t
 at_token (e ∷ es) (f ∷ fs) zero = refl
 at_token (e ∷ es) (f ∷ fs) (suc t) = at_token es fs t
 
--- the spot at a token is that of the entry there
+-- the spot at a token is the spot of the entry there
 pub told : (spots : List (Option Spot)) (es : List Entry) (fs : List (Option Spot)) (t : ℕ) (e : Entry) → spots_of es fs ≡ spots
     → ((far : Option Spot) → spot_in e far ≡ found (slice_get es t) far) → spot_in e (spot_at fs t) ≡ spot_at spots t
 told spots es fs t e same entry = entry (spot_at fs t) ∙ sym (at_token es fs t) ∙ ap (λ s. spot_at s t) same

@@ -1,5 +1,5 @@
--- The program of a file and its static faults. In reading order, after those of star_outline: Places, Uses, Placement, Conflicts,
--- Loads, Faults, Resolve.
+-- The program of a file and its static faults. In reading order, after the files of star_outline: Places, Uses,
+-- Placement, Conflicts, Loads, Faults, Resolve.
 pub mod Faults
 pub mod Placement
 pub mod Loads

@@ -71,7 +71,7 @@ in_arm = form_folds.fold-Arm (Position → Misplaced) Misplaced Misplaced form_s
 abbrev pub in_form : Form → Position → Misplaced
 in_form = form_folds.fold-Form (Position → Misplaced) Misplaced Misplaced form_step arm_step statement_step
 
--- the misplaced ones of statements and of arms, in some surroundings
+-- the misplaced statements among statements and in arms, in some surroundings
 abbrev pub in_statements : List Statement → Misplaced
 in_statements ss = each (map in_statement ss)
 

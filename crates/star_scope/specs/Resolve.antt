@@ -38,7 +38,7 @@ abbrev pub standing_in : ℕ → Option Prelude → StatementContext
 standing_in n None = of_file
 standing_in n (Some p) = if nat_eq p.file n then of_prelude else of_file
 
--- the parameters of definitions that have the name of an earlier one of theirs
+-- the parameters of definitions that have the name of an earlier parameter of the same definition
 abbrev pub repeated : List Definition → List LocatedFault
 repeated ds = flat_map (λ d. repeated_parameters d.parameters) ds
 

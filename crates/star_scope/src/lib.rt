@@ -18,7 +18,7 @@
 //!   or a built-in. So the evaluator never looks a name up by its text.
 //! - A block is the file, a function or a comprehension: a part with its own variables. The file's block has number 0,
 //!   the others one more than the number of their first token.
-//! - `ScopeFault` are the static faults; `Prelude` is the file whose globals every file sees.
+//! - `ScopeFault` is a static fault; `Prelude` is the file whose globals every file sees.
 //!
 //! Begin at `program.rt`, from its end. The promise is the contract of `resolve`: it answers exactly the first static
 //! fault, or else exactly the loads, definitions, blocks and the spot of each name. The law `spots_lead` says that a

@@ -15,7 +15,7 @@ use Rattle.star_serve.specs.Stream.{Adds}
 use Rattle.star_serve.specs.Trace.{Traces}
 use Rattle.star_serve.proofs.Traced.{Adds-nothing}
 
--- what holds of each plan that has what was read holds of one that files have
+-- a fact of each plan that has these readings is a fact of a plan of the files
 pub checked_in : (files : List File) (roots : List ℕ) (prelude : Option ℕ) (row : Row) (only : Bool) (text : List ℕ) (ok : Bool) → IsReadOf files roots prelude row
     → ((plan : Plan) → IsPlanOf files plan → readings row ≡ plan.reads → plan.roots ≡ roots → IsCheckText only files plan text × IsCheckAnswer plan ok) → (steps : ℕ) → InPlanOf files roots prelude steps (λ plan. IsOutput (Check only) files plan text ok)
 checked_in files roots prelude row only text ok (block, prelude_is, rows) each steps =
@@ -23,7 +23,7 @@ checked_in files roots prelude row only text ok (block, prelude_is, rows) each s
     let planned : IsPlanOf files plan = planned_so files block row plan refl prelude_is rows in
     (plan, planned, refl, refl, refl, each plan planned refl refl)
 
--- nothing is said beside it, and no load was refused
+-- no line is written beside the check, and no load was refused
 pub checked_said : (asked : Asked) (steps : ℕ) (only ok trace : Bool) (text : List ℕ) (old new : Option (List ℕ)) → new ≡ old → InPlanOf asked.files asked.roots asked.prelude steps (λ plan. IsOutput (Check only) asked.files plan text ok)
     → Traces (Check only) asked steps ok trace old new
 checked_said asked steps only ok trace text old new same (plan, planned, of_roots, of_prelude, of_steps, out) = (

@@ -11,6 +11,6 @@ module _ (files : List File) (roots : List ℕ) (prelude : Option ℕ) (steps : 
   pub ends_in : (ks : List KeptView) (es : List (Option GoodEnd)) → AreModulesOf files roots prelude steps ks → AreEndsInPlans ks es → InPlanOf files roots prelude steps (λ plan. AreReachedEnds plan es)
   ends_in ks es (plan, planned, of_roots, of_prelude, of_steps, are) ends = (plan, planned, of_roots, of_prelude, of_steps, ends plan are)
 
-  -- a plan of which nothing is run leaves none
+  -- a plan of which nothing is run leaves no good ends
   pub none_in : (P : Plan → Type 0) → InPlanOf files roots prelude steps P → InPlanOf files roots prelude steps (λ plan. AreReachedEnds plan [])
   none_in P (plan, planned, of_roots, of_prelude, of_steps, so) = (plan, planned, of_roots, of_prelude, of_steps, λ n e at. absurd (let no : ⊥ = cc in no))

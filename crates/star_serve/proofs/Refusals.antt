@@ -132,7 +132,7 @@ pub run_reads : (unwritten : Type 0) (r : Result Bool ServeError) → IfErr r (I
 run_reads unwritten (Ok x) h = refl
 run_reads unwritten (Err e) h = no_read_by_run unwritten e h
 
--- what an error says, in other words
+-- a fact of an error, in other words
 pub if_err : {T : Type 0} (r : Result T ServeError) (P Q : ServeError → Type 0) → ((e : ServeError) → P e → Q e) → IfErr r P → IfErr r Q
 if_err (Ok x) P Q f h = tt
 if_err (Err e) P Q f h = f e h

@@ -49,7 +49,7 @@ labels_kind roots p files are =
     bind_kind IsOfFiles {A = List ℕ} {B = Asked} (roots_of files roots) _ (roots_kind files roots are.0)
     (λ ns. bind_kind IsOfFiles {A = Option ℕ} {B = Asked} (prelude_of files p) _ (prelude_kind files p are.1) (λ n. tt))
 
--- what is asked for is refused
+-- the input that is asked for is refused
 pub asked_refused : (given : Result Asked ServeError) (unwritten : Type 0) (e : ServeError) → Fails e given → IsOf IsOfWords given → unwritten → IsRefusedOf given unwritten e
 asked_refused given unwritten BadRoot h k u = (h, u)
 asked_refused given unwritten NoRoot h k u = (h, u)
@@ -81,7 +81,7 @@ read_refused said roots p files unwritten Write are labels h = (h.0, (files, are
 read_refused said roots p files unwritten Unpublished are labels h = ((h.0.0, (files, are, h.0.1)), h.1)
 read_refused said roots p files unwritten e are labels h = absurd h
 
--- what is asked for is asked of these files
+-- the files of an input are those that its words are looked up in
 asked_so : (files : List File) (p : Result (Option ℕ) ServeError) (ns : List ℕ) (a : Asked) → (p >>= λ q. Ok (record { files = files; roots = ns; prelude = q })) ≡ Ok a → a.files ≡ files
 asked_so files (Ok q) ns a e =
     let b : Asked = record { files = files; roots = ns; prelude = q } in

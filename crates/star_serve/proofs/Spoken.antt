@@ -1,4 +1,4 @@
--- The words of the command line, as what is asked for has them.
+-- The words of the command line, as they are passed on.
 use Rattle.std.proofs.Common.{◌≡◌, ℕ, List, Option, None, Some, String, Bor, Global, refl, ap, map, subst, sym, ◌∙◌, string_bytes}
 use Rattle.std.specs.Option.{option_copied, option_map}
 use Rattle.star_label.specs.Files.{File}
@@ -14,7 +14,7 @@ same_words (Some p) = refl
 pub words_of : (o : Option (Bor (String Global))) (p : Option (String Global)) → option_copied o ≡ p → option_map string_bytes p ≡ option_map (λ x. string_bytes x.now) o
 words_of o p e = ap (option_map string_bytes) (sym e) ∙ same_words o
 
--- what is made of the words of the options is made of the words as they were passed on
+-- a value that is made of the words of the options is made of the words as they were passed on
 pub same_by_words : {X : Type 0} (F : List (List ℕ) → Option (List ℕ) → X) (options : Options) (roots : List (String Global)) (o : Option (Bor (String Global))) → roots ≡ options.roots.items → option_copied o ≡ options.prelude
     → F (root_words options) (prelude_word options) ≡ F (map string_bytes roots) (option_map (λ p. string_bytes p.now) o)
 same_by_words F options roots o same given =

@@ -24,7 +24,7 @@ Gives-more a b c x y h g = (Adds-more a.given b.given c.given x y h.0 g.0, Consu
 pub longer : (limit : ℕ) (bytes buffer : List ℕ) (n : ℕ) → n ≤ length buffer → limit - length bytes < n → limit < length (bytes ++ take n buffer)
 longer limit bytes buffer n h g = simp (length-append, length-take) (omega arith)
 
--- what holds of an answer that is no error
+-- a fact of an answer that is not an error
 pub went_well : {T E P : Type 0} (r : Result T E) → is_err r ≡ false → OnOk r P → P
 went_well (Ok x) e h = h
 went_well (Err x) e h = absurd (true≢false e)

@@ -20,7 +20,7 @@ use Rattle.star_report.proofs.Planned.{lead_to_files}
 use Rattle.star_serve.specs.Trace.{is_said}
 use Rattle.star_serve.specs.Written.{IsRunOf}
 
--- where as many files were begun as are reached, the text is that of the report
+-- if as many files were begun as are reached, the text is the text of the report
 pub full_text_of : (wanted : Wanted) (files : List File) (plan : Plan) (ks : List KeptView) (begun : ℕ) (text : List ℕ) → begun ≡ length ks → IsReportBut wanted files plan (length ks) begun text → IsFullText wanted files plan text
 full_text_of wanted files plan ks begun text count but = record {
   begun = begun;
@@ -33,7 +33,7 @@ full_text_of wanted files plan ks begun text count but = record {
 pub lead_files : (files : List File) (row : Row) → length row ≡ length files → LeadWithin row → LeadToFiles files row
 lead_files files row size within n = subst (λ k. All (λ l. l.file < k) (loads_at row n)) size (within n)
 
--- what was read of files has a place for each, and loads within them
+-- the readings of files have a place for each file, and loads within the files
 pub row_size : (files : List File) (roots : List ℕ) (prelude : Option ℕ) (row : Row) → IsReadOf files roots prelude row → length row ≡ length files
 row_size files roots prelude row (block, prelude_is, rows) = rows.sized
 
@@ -63,11 +63,11 @@ none_said (Global name) files plan false line is none = absurd (let no : ⊥ = c
 none_said Graph files plan ok line is none = is
 none_said (Check only_roots) files plan ok line is none = is
 
--- where no line is said beside what is wanted, none is
+-- an output that has no line beside it has an empty line
 pub not_said : (output : Output) (files : List File) (roots : List ℕ) (prelude : Option ℕ) (steps : ℕ) (ok : Bool) (line : List ℕ) → InPlanOf files roots prelude steps (λ plan. IsSaid output files plan ok line) → is_said output ok ≡ false → line ≡ []
 not_said output files roots prelude steps ok line (plan, planned, of_roots, of_prelude, of_steps, is) none = none_said output files plan ok line is none
 
--- what is there has a further fact
+-- a value with a fact has a further fact
 pub if_ok-map : {A E : Type 0} {P Q : A → Type 0} (r : Result A E) → ((x : A) → P x → Q x) → IfOk r P → IfOk r Q
 if_ok-map (Ok x) f h = f x h
 if_ok-map (Err e) f h = tt

@@ -12,7 +12,7 @@ use Rattle.star_repo.specs.Held.{Said}
 use Rattle.star_repo.specs.declared.error.RepoError.{RepoError}
 use Rattle.star_repo.specs.declared.error.RepoError.TheVariants as why
 
--- what is asked for of such files is this, or is refused so
+-- the input that is asked for among such files, or its refusal, is this
 abbrev pub AsksOf : Said → List (List ℕ) → Option (List ℕ) → Result Asked ServeError → Type 0
 AsksOf said roots prelude given =
     (files : List File) × AreFilesFor said roots prelude files × (asked_among roots prelude files ≡ given)
@@ -21,7 +21,7 @@ AsksOf said roots prelude given =
 abbrev pub AsksForRepo : Said → Options → Result Asked ServeError → Type 0
 AsksForRepo said options given = AsksOf said (root_words options) (prelude_word options) given
 
--- a refusal but of a file: first of the words, then of what is asked for, then of the run
+-- a refusal that is not about one file: first of the words, then of the input that is asked for, then of the run
 abbrev pub IsRefusedAll : Said → List (List ℕ) → Option (List ℕ) → Type 0 → ServeError → Type 0
 IsRefusedAll said roots prelude unwritten BadRoot = IsMisnamed roots prelude BadRoot × unwritten
 IsRefusedAll said roots prelude unwritten BadPrelude = IsMisnamed roots prelude BadPrelude × unwritten
@@ -33,7 +33,7 @@ IsRefusedAll said roots prelude unwritten Unpublished =
 IsRefusedAll said roots prelude unwritten Write = (asked : Asked) × AsksOf said roots prelude (Ok asked)
 IsRefusedAll said roots prelude unwritten e = ⊥
 
--- A refusal of what is asked for of files, or of its run.
+-- A refusal of the input that is asked for, or of its run.
 abbrev pub IsRefusedOf : Result Asked ServeError → Type 0 → ServeError → Type 0
 IsRefusedOf given unwritten BadRoot = (given ≡ Err BadRoot) × unwritten
 IsRefusedOf given unwritten BadPrelude = (given ≡ Err BadPrelude) × unwritten
@@ -44,14 +44,14 @@ IsRefusedOf given unwritten Unpublished = ((asked : Asked) × (given ≡ Ok aske
 IsRefusedOf given unwritten Write = (asked : Asked) × (given ≡ Ok asked)
 IsRefusedOf given unwritten e = ⊥
 
--- The meaning of a refusal: one of the file at a label says that this file is the first, by its round and its label,
+-- The meaning of a refusal. If it is about the file at a label, this file is the first, by its round and its label,
 -- that does not pass.
 abbrev pub IsRefusedRepo : Said → List (List ℕ) → Option (List ℕ) → Type 0 → RepoError → Type 0
 IsRefusedRepo said roots prelude unwritten (why.File label error) =
     IsUnread said roots prelude (why.File label error) × unwritten
 IsRefusedRepo said roots prelude unwritten (why.Run error) = IsRefusedAll said roots prelude unwritten error
 
--- a write failed where the answer is so, and else none
+-- one write failed if the answer is so, else none
 abbrev pub failed_write : RepoError → ℕ
 failed_write (why.Run Write) = 1
 failed_write e = 0

@@ -30,7 +30,7 @@ BreaksOff old new = (input : List ℕ) × GaveFirst old new input × (length inp
 abbrev pub Overruns : Said → Said → Type 0
 Overruns old new = (input : List ℕ) × Gives old new input × (input_limit < length input)
 
--- what a job is asked for
+-- the input of a job
 abbrev pub asked_in : Job → Asked
 asked_in job = asked_view job.asked.now
 
@@ -42,7 +42,7 @@ root_words options = map string_bytes options.roots.items
 abbrev pub prelude_word : Options → Option (List ℕ)
 prelude_word options = option_map string_bytes options.prelude
 
--- by the words of the options this is asked for of an input that was read up to its end, or it is refused so
+-- this is the input that the options ask for, of bytes that were read up to their end, or its refusal
 abbrev pub Asks : Said → Said → Options → Result Asked ServeError → Type 0
 Asks old new options given =
     (input : List ℕ) × ReadsAll old new input × (asked_of (root_words options) (prelude_word options) input ≡ given)
@@ -55,25 +55,26 @@ AsksAmong files options given = asked_among (root_words options) (prelude_word o
 abbrev pub AsksForDir : Contents → Options → Result Asked ServeError → Type 0
 AsksForDir held options given = (files : List File) × AreFilesOf held files × AsksAmong files options given
 
--- the text and the answer are those of what is wanted of what is asked for
+-- the text and the answer are the wanted output for the input that is asked for
 abbrev pub IsOutputFor : Output → Asked → ℕ → List ℕ → Bool → Type 0
 IsOutputFor output asked steps text all_ok =
     InPlanOf asked.files asked.roots asked.prelude steps (λ plan. IsOutput output asked.files plan text all_ok)
 
--- Between old and new what is wanted of what is asked for was written, and nothing else, and so answered (`IsOutput`).
+-- Between old and new the wanted output for the input that is asked for was written, and nothing else, and this is the
+-- answer (`IsOutput`).
 abbrev pub Reports : Output → Asked → ℕ → Option (List ℕ) → Option (List ℕ) → Bool → Type 0
 Reports output asked steps old new all_ok =
     (text : List ℕ) × Adds old new text × IsOutputFor output asked steps text all_ok
 
--- Where no person is told and no write failed, between the two states of a writer nothing but the trace was written
--- (`Traces`). `taken` says what a writer has taken, `failed` how many of its writes have failed.
+-- If no message to a person is wanted and no write failed, nothing but the trace was written between the two states of
+-- a writer (`Traces`). `taken` says what a writer has taken, `failed` how many of its writes have failed.
 abbrev pub IsTraced : {E : Type 0} → (E → Option (List ℕ)) → (E → ℕ) → Options → Asked → Bool → E → E → Type 0
 IsTraced taken failed options asked all_ok old new =
     options.explain ≡ None → failed new ≡ failed old
     → Traces options.output asked options.steps all_ok options.trace (taken old) (taken new)
 
--- By the options something was asked for, its report was written, and nothing else, and so answered; and to the other
--- writer nothing but the trace, where no person is told and no write failed.
+-- By the options some input is asked for. Its report was written, and nothing else, and this is the answer. Nothing but
+-- the trace was written to the other writer, if no message to a person is wanted and no write failed.
 abbrev pub IsServed : {W E : Type 0} → (W → Option (List ℕ)) → (E → Option (List ℕ)) → (E → ℕ) → Options
     → (Options → Result Asked ServeError → Type 0) → W → W → E → E → Bool → Type 0
 IsServed taken traced failed options asks old new errors errors' all_ok =
@@ -81,15 +82,16 @@ IsServed taken traced failed options asks old new errors errors' all_ok =
     × Reports options.output asked options.steps (taken old) (taken new) all_ok
     × IsTraced traced failed options asked all_ok errors errors'
 
--- what a refusal of a run or of its report says: nothing was written, but where the write failed
+-- the meaning of a refusal of a run or of its report: nothing was written, unless the write failed
 abbrev pub IsRefusedRun : Type 0 → ServeError → Type 0
 IsRefusedRun unwritten Memory = unwritten
 IsRefusedRun unwritten Unpublished = unwritten
 IsRefusedRun unwritten Write = ⊤
 IsRefusedRun unwritten e = ⊥
 
--- The meaning of a refusal. `answers r` says that all was read, and r is what was asked for or the refusal of it; `within`
--- that no more than the limit was read, `longer` that more was; `unwritten` that the writer is as it was.
+-- The meaning of a refusal. `answers r` says that all was read, and r is the input that is asked for, or its refusal.
+-- `within` says that no more than the limit was read, `longer` that more was read, and `unwritten` that the writer is
+-- as it was.
 abbrev pub IsRefused : (Result Asked ServeError → Type 0) → Type 0 → Type 0 → Type 0 → ServeError → Type 0
 IsRefused answers within longer unwritten Read = within × unwritten
 IsRefused answers within longer unwritten TooBig = longer × unwritten
@@ -103,9 +105,9 @@ abbrev pub IsRefusedInput : Said → Said → Options → Type 0 → ServeError 
 IsRefusedInput old new options unwritten e =
     IsRefused (Asks old new options) (BreaksOff old new) (Overruns old new) unwritten e
 
--- The meaning of a refusal if the files are those of a folder. `stopped e` says that the walk through it stopped so;
--- `answers r` that the walk came to its end, and r is what was asked for of its files or the refusal of it; `unwritten`
--- that the writer is as it was.
+-- The meaning of a refusal if the files are those of a folder. `stopped e` says that the walk through the folder
+-- stopped with this error. `answers r` says that the walk came to its end, and r is the input that is asked for among
+-- its files, or the refusal of it. `unwritten` says that the writer is as it was.
 abbrev pub IsRefusedDir : (ServeError → Type 0) → (Result Asked ServeError → Type 0) → Type 0 → ServeError → Type 0
 IsRefusedDir stopped answers unwritten BadRoot = answers (Err BadRoot) × unwritten
 IsRefusedDir stopped answers unwritten NoRoot = answers (Err NoRoot) × unwritten

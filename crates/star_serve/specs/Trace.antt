@@ -19,7 +19,7 @@ abbrev pub trace_text : List File → List CyclicLoad → List ℕ
 trace_text files [] = []
 trace_text files (r ∷ rs) = trace_line files r ++ trace_text files rs
 
--- this line is said beside what is wanted of what is asked for
+-- this line is written beside the wanted output for the input that is asked for
 abbrev pub IsSaidFor : Output → Asked → ℕ → Bool → List ℕ → Type 0
 IsSaidFor output asked steps all_ok line =
     InPlanOf asked.files asked.roots asked.prelude steps (λ plan. IsSaid output asked.files plan all_ok line)
@@ -33,15 +33,15 @@ abbrev pub SaysFirst : List File → List ℕ → List CyclicLoad → Bool → O
 SaysFirst files said rs trace old new =
     (count : ℕ) × (trace ≡ false → count ≡ 0) × Adds old new (said ++ trace_text files (take count rs))
 
--- Between old and new the line was written that is said beside what is wanted (`IsSaid`), and then, with the trace, the
--- lines of some loads, and nothing else: each of these lies on a cycle of loads.
+-- Between old and new the line beside the wanted output was written (`IsSaid`), and then, with the trace, the lines of
+-- some loads, and nothing else. Each of these loads lies on a cycle of loads.
 abbrev pub Traces : Output → Asked → ℕ → Bool → Bool → Option (List ℕ) → Option (List ℕ) → Type 0
 Traces output asked steps all_ok trace old new =
     (line : List ℕ) × IsSaidFor output asked steps all_ok line
     × (rs : List CyclicLoad) × AreRefusalsOf asked.files asked.roots asked.prelude steps rs
     × (trace ≡ false → rs ≡ []) × Adds old new (line ++ trace_text asked.files rs)
 
--- whether a line is said beside what is wanted
+-- whether a line is written beside the wanted output
 abbrev pub is_said : Output → Bool → Bool
 is_said (Report wanted) all_ok = false
 is_said (Global name) all_ok = not all_ok

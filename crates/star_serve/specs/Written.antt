@@ -17,12 +17,12 @@ pub record IsRunOf (files : List File) (roots : List ℕ) (row : Row) (run : Run
   pub modules : AreModules plan run.kept
   pub begun : run.begun ≡ length run.kept
 
--- the text and the answer are those of what is wanted of each plan that has this run
+-- the text and the answer are the wanted output of each plan that has this run
 abbrev pub IsTextOf : Output → List File → List ℕ → Row → RunView → List ℕ → Bool → Type 0
 IsTextOf output files roots row run text all_ok =
     (plan : Plan) → IsRunOf files roots row run plan → IsOutput output files plan text all_ok
 
--- .. and the line is that said beside it
+-- .. and the line is the one that is written beside it
 abbrev pub IsLineOf : Output → List File → List ℕ → Row → RunView → Bool → List ℕ → Type 0
 IsLineOf output files roots row run all_ok line =
     (plan : Plan) → IsRunOf files roots row run plan → IsSaid output files plan all_ok line

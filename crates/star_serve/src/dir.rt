@@ -16,11 +16,11 @@ use std::alloc::Global;
 use std::sync::Wait;
 use std::thread::Threads;
 
-/// Loads the roots from the files of a folder and writes the report, and to `errors` the trace and what a person is told,
-/// where these are wanted. It answers whether every module of the report is ok.
+/// Loads the roots from the files of a folder and writes the report, and to `errors` the trace and the message to a
+/// person, where these are wanted. It answers whether every module of the report is ok.
 ///
-/// The rules are those of `docs/FOLDERS.md` and `docs/REPORT.md`: which files a folder has, the refusals in their
-/// order, and the report.
+/// The rules are in `docs/FOLDERS.md` and `docs/REPORT.md`: which files a folder has, the refusals in their order, and
+/// the report.
 pub fn serve_dir<H: Threads + Wait + Sync, F: Folder, W: Sink, E: Sink>(
     rt: &H,
     alloc: Global,
@@ -32,18 +32,19 @@ pub fn serve_dir<H: Threads + Wait + Sync, F: Folder, W: Sink, E: Sink>(
     requires loaders { (1 ≤ options.now.loaders) × (options.now.loaders ≤ 64) }
     requires steps { (1 ≤ options.now.steps) × (options.now.steps ≤ 100000000) }
 
-    // The walk came to its end, its files have each root and the prelude, and their report was written, and nothing
-    // else; and to `errors` nothing but lines of loads that lie on cycles, unless a write to it failed.
+    // The walk came to its end, and its files have each root and the prelude. Their report was written, and nothing
+    // else. Nothing was written to `errors` but lines of loads that lie on cycles, unless a write to it failed.
     ensures ok { IfOk result (IsServed W.taken E.taken E.failed options.now (AsksForDir (F.holds folder.old))
         writer.old writer.new errors.old errors.new) }
 
-    // Where neither the trace is wanted nor a person told, and where there is no answer, nothing was written to
-    // `errors`.
+    // Nothing was written to `errors` if neither the trace nor a message to a person is wanted and no line goes beside
+    // the output, or if there is no answer.
     ensures untraced { IfOk result (λ all_ok. options.now.explain ≡ None → options.now.trace ≡ false
         → is_said options.now.output all_ok ≡ false → errors.new ≡ errors.old) }
     ensures unsaid { IfErr result (λ _. errors.new ≡ errors.old) }
 
-    // The walk stopped so, or what is asked for of its files is refused so, and nothing was written.
+    // The walk stopped with this error, or the input that is asked for among its files is refused with it, and nothing
+    // was written.
     ensures refused { IfErr result (IsRefusedDir (IsStopped (F.holds folder.old))
         (AsksForDir (F.holds folder.old) options.now) (writer.new ≡ writer.old)) }
 

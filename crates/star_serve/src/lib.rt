@@ -1,8 +1,8 @@
 //! From input to output: the bytes of a bundle, or a folder, to the bytes of the report.
 //!
-//! - `serve::serve` reads a bundle from a `Source` to its end, asks `star_bundle` what is wanted, runs it
-//!   (`star_host`), and writes the report to a `Sink` by one write, and then the trace, if it is wanted.
-//!   `dir::serve_dir` does so with all files of a folder, `repo::serve_repo` with those that roots reach.
+//! - `serve::serve` reads a bundle from a `Source` to its end, finds the roots and the prelude among its files
+//!   (`star_bundle`), runs them (`star_host`), and writes the report to a `Sink` by one write, and then the trace, if
+//!   it is wanted. `dir::serve_dir` does so with all files of a folder, `repo::serve_repo` with those that roots reach.
 //! - `Options` has what the command line asks for.
 //! - `Source` and `Sink` (`stream`) are traits of byte streams. Their ghost members, which only contracts see, say
 //!   which bytes they gave and took. `CountedReader` and `CountedWriter` (`ends`) are the streams of the real program:
@@ -12,8 +12,8 @@
 //! - `progress` shows a person how far a run is.
 //!
 //! Begin at `serve.rt`, from its end. The promise is the contract of `serve`: if it succeeds, it has read all input and
-//! written exactly the report of the definitions (`specs/Serve`); if it fails, it is by the first refusal of the rules,
-//! and nothing was written, unless the write failed. See `docs/REPORT.md`.
+//! written exactly the report of the definitions (`specs/Serve`). If it fails, the error is the first refusal of the
+//! rules, and nothing was written, unless the write failed. See `docs/REPORT.md`.
 #![tactic(auto)]
 
 pub mod dir;

@@ -254,7 +254,7 @@ pub fn show<R: Wait + Clock, E: Sink>(rt: &R, alloc: Global, progress: &Progress
     progress.set_cleared(rt);
 }
 
-/// The gate of a run: it notes how far the run is, where a person is shown that.
+/// The gate of a run: it notes how far the run is, if that is shown to a person.
 #[derive(Drop)]
 pub(crate) struct Watched<'a, R> {
     pub rt: &'a R,

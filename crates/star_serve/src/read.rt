@@ -10,15 +10,15 @@ use star_bundle::error::ServeError;
 use std::alloc::Global;
 
 /// The most bytes that a bundle may have.
-const LIMIT: usize = 268_435_456;
+const MOST_BYTES: usize = 268_435_456;
 
 /// How many bytes are asked for at once.
 const CHUNK: usize = 65_536;
 
 /// All that the reader gives until it has no more.
 ///
-/// `Read` where a read fails, which ends the reading; `TooBig` as soon as more than 268,435,456 bytes were given;
-/// `Memory`.
+/// `Read` if a read fails, which ends the reading. `TooBig` as soon as more than 268,435,456 bytes were given. `Memory`
+/// if an allocation failed.
 pub fn read_all<R: Source>(alloc: Global, reader: &mut R) -> Result<Vec<u8>, ServeError>
     ensures ok { IfOk result (λ bytes. GivesAll (R.said reader.old) (R.said reader.new) bytes.items) }
     ensures within { IfOk result (λ bytes. length bytes.items ≤ input_limit) }
@@ -37,7 +37,7 @@ pub fn read_all<R: Source>(alloc: Global, reader: &mut R) -> Result<Vec<u8>, Ser
         if count == 0 {
             return Ok(bytes);
         }
-        if count > LIMIT - bytes.len() {
+        if count > MOST_BYTES - bytes.len() {
             return Err(ServeError::TooBig);
         }
         bytes.extend_from_slice(&buffer[..count])?;

@@ -68,12 +68,12 @@ fn reported_of<'t, H: Threads + Wait + Sync, W: Sink, E: Sink>(
     outcome
 }
 
-/// Loads the roots from the files that they reach in a folder and writes the report, and to `errors` the trace and what a
-/// person is told, where these are wanted. It answers whether every module of the report is ok. Only what is reached is
-/// looked up, and each text is parsed once.
+/// Loads the roots from the files that they reach in a folder and writes the report, and to `errors` the trace and the
+/// message to a person, where these are wanted. It answers whether every module of the report is ok. Only what is
+/// reached is looked up, and each text is parsed once.
 ///
-/// The rules are those of `docs/FOLDERS.md` and `docs/REPORT.md`: which files are reached, the refusals in their order,
-/// and the report.
+/// The rules are in `docs/FOLDERS.md` and `docs/REPORT.md`: which files are reached, the refusals in their order, and
+/// the report.
 pub fn serve_repo<H: Threads + Wait + Sync, F: Repo, W: Sink, E: Sink>(
     rt: &H,
     alloc: Global,
@@ -85,20 +85,20 @@ pub fn serve_repo<H: Threads + Wait + Sync, F: Repo, W: Sink, E: Sink>(
     requires loaders { (1 ≤ options.now.loaders) × (options.now.loaders ≤ 64) }
     requires steps { (1 ≤ options.now.steps) × (options.now.steps ≤ 100000000) }
 
-    // The files are those that the roots and the prelude reach in some folder that fits what this one says; they have
-    // each root and the prelude, and their report was written, and nothing else; and to `errors` nothing but lines of
-    // loads that lie on cycles, unless a write to it failed.
+    // The files are those that the roots and the prelude reach in some folder that fits all that this one tells. They
+    // have each root and the prelude. Their report was written, and nothing else. Nothing was written to `errors` but
+    // lines of loads that lie on cycles, unless a write to it failed.
     ensures ok { IfOk result (IsServed W.taken E.taken E.failed options.now (AsksForRepo (F.says folder.old))
         writer.old writer.new errors.old errors.new) }
 
-    // Where neither the trace is wanted nor a person told, and where there is no answer, nothing was written to
-    // `errors`.
+    // Nothing was written to `errors` if neither the trace nor a message to a person is wanted and no line goes beside
+    // the output, or if there is no answer.
     ensures untraced { IfOk result (λ all_ok. options.now.explain ≡ None → options.now.trace ≡ false
         → is_said options.now.output all_ok ≡ false → errors.new ≡ errors.old) }
     ensures unsaid { IfErr result (λ _. errors.new ≡ errors.old) }
 
-    // A word is no label, or a file is refused, or what is asked for of the files is refused so, and nothing was
-    // written.
+    // A word is not a label, or a file is refused, or the input that is asked for among the files is refused, and
+    // nothing was written.
     ensures refused { IfErr result (IsRefusedRepo (F.says folder.old) (root_words options.now)
         (prelude_word options.now) (writer.new ≡ writer.old)) }
 

@@ -54,18 +54,18 @@ pub struct Options {
     pub trace: bool,
     /// The folder that has the files: none where the bundle is read.
     pub dir: Option<String>,
-    /// How a person is told after the report, and after the trace, what is at fault and where: none where nothing is
-    /// told.
+    /// The form of the message that tells a person, after the report and after the trace, what is at fault and where:
+    /// none if no message is wanted.
     pub explain: Option<Form>,
     /// Where the loaders note how far the run is, for a thread that shows it (`progress::show`): none where there is no
     /// such thread.
     pub progress: Option<Arc<Progress>>,
 }
 
-/// What is asked for, with the trees of its files.
+/// The input that is asked for, with the trees of its files.
 #[derive(Clone, Copy)]
 pub struct Job<'a, 't> {
-    /// What is asked for.
+    /// The input that is asked for.
     pub asked: &'a AskedFor,
     /// Where the trees of the files are put.
     pub trees: &'t Trees,
@@ -73,14 +73,14 @@ pub struct Job<'a, 't> {
     pub parses: &'a [Option<Parsed<'t>>],
 }
 
-/// A run, and what there is to write of it.
+/// A run, and its output.
 #[derive(Drop)]
 struct Answer {
     run: Run,
     written: Written,
 }
 
-/// Reads the files that what is asked for reaches, runs none, and says what is told of them.
+/// Reads the files that the input reaches, runs none, and returns the check of them.
 fn checked<'t, H: Threads + Wait + Sync>(
     rt: &H,
     alloc: Global,
@@ -108,7 +108,7 @@ fn checked<'t, H: Threads + Wait + Sync>(
     Ok(it)
 }
 
-/// Runs what is asked for. `Memory`, or `Unpublished` where a module was not published.
+/// Runs the roots that are asked for. `Memory`, or `Unpublished` where a module was not published.
 fn answered<'t, H: Threads + Wait + Sync>(
     rt: &H,
     alloc: Global,
@@ -195,8 +195,8 @@ fn check_over<'t, H: Threads + Wait + Sync>(
     }
 }
 
-/// What there is to write of a run, the good ends of the files that it reached, by the numbers of the files, and the
-/// numbers of all files that it reached. A check leaves neither.
+/// The output of a run, the good ends of the files that it reached, by the numbers of the files, and the numbers of all
+/// files that it reached. A check leaves neither ends nor numbers.
 #[derive(Drop)]
 pub struct Finished {
     pub written: Written,
@@ -215,9 +215,8 @@ fn read_numbers(alloc: Global, reads: &Reads) -> Result<Vec<usize>, AllocError> 
     Ok(numbers)
 }
 
-/// Runs what is asked for, frees the run, and answers what there is to write of it, with its good ends; for a check
-/// nothing is run. A file whose good end is among `ends` is not run. `Memory`, or `Unpublished` where a module was not
-/// published.
+/// Runs the roots that are asked for, frees the run, and returns its output, with its good ends. For a check nothing is
+/// run. A file whose good end is among `ends` is not run. `Memory`, or `Unpublished` where a module was not published.
 pub fn written_over<'t, H: Threads + Wait + Sync>(
     rt: &H,
     alloc: Global,
@@ -261,7 +260,7 @@ pub fn written_over<'t, H: Threads + Wait + Sync>(
     })
 }
 
-/// Writes the text for a person on a run by one write, if it is wanted. If it gets no memory, nothing is written.
+/// Writes the message to a person about a run by one write, if it is wanted. If it gets no memory, nothing is written.
 fn write_explained<E: Sink>(
     alloc: Global,
     errors: &mut E,
@@ -281,8 +280,8 @@ fn write_explained<E: Sink>(
     }
 }
 
-/// Writes the text for a person on files that were not run, by one write, if it is wanted. If it gets no memory, nothing
-/// is written.
+/// Writes the message to a person about files that were not run, by one write, if it is wanted. If it gets no memory,
+/// nothing is written.
 fn write_judged<E: Sink>(
     alloc: Global,
     errors: &mut E,
@@ -302,8 +301,8 @@ fn write_judged<E: Sink>(
     }
 }
 
-/// Writes what is told of the files that are reached, and to `errors` what a person is told, where that is wanted. None is
-/// run. It answers whether there is nothing against any.
+/// Writes the check of the files that are reached, and to `errors` the message to a person, where that is wanted. No
+/// file is run. It answers whether there is nothing against any file.
 fn checked_over<'t, H: Threads + Wait + Sync, W: Sink, E: Sink>(
     rt: &H,
     alloc: Global,
@@ -342,8 +341,8 @@ fn checked_over<'t, H: Threads + Wait + Sync, W: Sink, E: Sink>(
     Ok(all_ok)
 }
 
-/// Runs what is asked for and writes the report, and to `errors` the trace and what a person is told, where these are
-/// wanted. It answers whether every module of the report is ok. For a check nothing is run.
+/// Runs the roots that are asked for and writes the report, and to `errors` the trace and the message to a person,
+/// where these are wanted. It answers whether every module of the report is ok. For a check nothing is run.
 pub(crate) fn reported_over<'t, H: Threads + Wait + Sync, W: Sink, E: Sink>(
     rt: &H,
     alloc: Global,
@@ -396,8 +395,8 @@ pub(crate) fn reported_over<'t, H: Threads + Wait + Sync, W: Sink, E: Sink>(
     Ok(all_ok)
 }
 
-/// Runs what is asked for and writes the report, and to `errors` the trace and what a person is told, where these are
-/// wanted. It answers whether every module of the report is ok.
+/// Runs the roots that are asked for and writes the report, and to `errors` the trace and the message to a person,
+/// where these are wanted. It answers whether every module of the report is ok.
 pub(crate) fn reported<H: Threads + Wait + Sync, W: Sink, E: Sink>(
     rt: &H,
     alloc: Global,
@@ -433,10 +432,10 @@ pub(crate) fn reported<H: Threads + Wait + Sync, W: Sink, E: Sink>(
     outcome
 }
 
-/// Reads a bundle, loads the roots and writes the report, and to `errors` the trace and what a person is told, where
+/// Reads a bundle, loads the roots and writes the report, and to `errors` the trace and the message to a person, where
 /// these are wanted. It answers whether every module of the report is ok.
 ///
-/// The rules are those of `docs/REPORT.md`: what a bundle is, the refusals in their order, and the report.
+/// The rules are in `docs/REPORT.md`: what a bundle is, the refusals in their order, and the report.
 pub fn serve<H: Threads + Wait + Sync, R: Source, W: Sink, E: Sink>(
     rt: &H,
     alloc: Global,
@@ -448,18 +447,18 @@ pub fn serve<H: Threads + Wait + Sync, R: Source, W: Sink, E: Sink>(
     requires loaders { (1 ≤ options.now.loaders) × (options.now.loaders ≤ 64) }
     requires steps { (1 ≤ options.now.steps) × (options.now.steps ≤ 100000000) }
 
-    // All was read, it is a bundle that has each root and the prelude, and its report was written, and nothing else;
-    // and to `errors` nothing but lines of loads that lie on cycles, unless a write to it failed.
+    // All was read, and it is a bundle that has each root and the prelude. Its report was written, and nothing else.
+    // Nothing was written to `errors` but lines of loads that lie on cycles, unless a write to it failed.
     ensures ok { IfOk result (IsServed W.taken E.taken E.failed options.now
         (Asks (R.said reader.old) (R.said reader.new)) writer.old writer.new errors.old errors.new) }
 
-    // Where neither the trace is wanted nor a person told, and where there is no answer, nothing was written to
-    // `errors`.
+    // Nothing was written to `errors` if neither the trace nor a message to a person is wanted and no line goes beside
+    // the output, or if there is no answer.
     ensures untraced { IfOk result (λ all_ok. options.now.explain ≡ None → options.now.trace ≡ false
         → is_said options.now.output all_ok ≡ false → errors.new ≡ errors.old) }
     ensures unsaid { IfErr result (λ _. errors.new ≡ errors.old) }
 
-    // The input is refused so, and nothing was written.
+    // The input is refused with this error, and nothing was written.
     ensures refused { IfErr result
         (IsRefusedInput (R.said reader.old) (R.said reader.new) options.now (writer.new ≡ writer.old)) }
 
@@ -480,7 +479,7 @@ pub fn serve<H: Threads + Wait + Sync, R: Source, W: Sink, E: Sink>(
         Ok(asked) => asked,
         Err(error) => return Err(error),
     };
-    // The texts have rows of their own: the bundle's bytes make room for the run.
+    // The texts have rows of their own, so the bundle's bytes are freed to make room for the run.
     drop(bytes);
     reported(rt, alloc, &asked, writer, errors, options)
 }

@@ -29,7 +29,7 @@ pub trait Source {
 
 /// Where the report goes.
 pub trait Sink {
-    /// All that it has taken so far, where it says. Nothing is said once a write has failed.
+    /// All bytes that it has taken so far, if it tells them. It need not tell them once a write has failed.
     ghost taken: { Self → Option (List ℕ) };
 
     /// How many of its writes have failed.

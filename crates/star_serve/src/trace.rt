@@ -48,8 +48,8 @@ pub(crate) fn write_some<W: Sink>(writer: &mut W, text: &[u8]) -> Result<(), Fai
     writer.write(text)
 }
 
-/// Writes what is said of a run, and then, with the trace, the line of each refused load, up to the first that gets no
-/// memory or cannot be written.
+/// Writes the line that goes beside the output of a run, and then, with the trace, the line of each refused load, up to
+/// the first that gets no memory or cannot be written.
 pub(crate) fn say<W: Sink>(
     alloc: Global,
     writer: &mut W,

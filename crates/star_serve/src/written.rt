@@ -1,5 +1,5 @@
-//! Chooses and makes the text that is written of a run: the report, the globals of the roots, the graph of loads, or what
-//! could be told before it (`serve` asks for no run for that).
+//! Chooses and makes the text that is written of a run: the report, the globals of the roots, the graph of loads, or
+//! the check of the files (`serve` runs nothing for that).
 
 ghost use Rattle.std.specs.Prelude.{◌≡◌, ◌<◌, [], ℕ, All, IfOk, List, false, length, string_bytes, true};
 ghost use Rattle.star_outcome.specs.Kept.{AllGood, RunView};
@@ -22,12 +22,12 @@ use star_report::wanted::{Output, Wanted};
 use std::alloc::{AllocError, Global};
 use std::thread::Threads;
 
-/// The text that is written of a run, a line to say beside it, and the answer.
+/// The text that is written of a run, a line to write beside it, and the answer.
 #[derive(Drop)]
 pub struct Written {
     /// The text.
     pub text: Vec<u8>,
-    /// The line that is said beside it, or nothing.
+    /// The line that is written beside it, or nothing.
     pub said: String,
     /// The answer: whether all modules are ok, or each root has the global that is wanted.
     pub all_ok: bool,
@@ -46,7 +46,7 @@ fn with_answer(alloc: Global, run: &mut Run, text: Vec<u8>) -> Written
     Written { text, said, all_ok }
 }
 
-/// The report, with what is wanted more; the answer is whether all modules are ok.
+/// The report, with the further members that are wanted. The answer is whether all modules are ok.
 fn report_written<R: Threads + Sync>(
     rt: &R,
     alloc: Global,
@@ -72,7 +72,7 @@ fn report_written<R: Threads + Sync>(
     Ok(with_answer(alloc, run, text))
 }
 
-/// The graph of loads; the answer is whether all modules are ok.
+/// The graph of loads. The answer is whether all modules are ok.
 fn graph_written(
     alloc: Global,
     files: &Files,
@@ -102,7 +102,7 @@ fn lack_line(alloc: Global, files: &Files, root: usize, why: Lack) -> Result<Str
     format!(in alloc; "starload: {root}: {why}\n")
 }
 
-/// The globals of the roots, where each has its own; else what is said of the first that has none.
+/// The globals of the roots, if each has its own, or else the line about the first root that has none.
 fn globals_written(
     alloc: Global,
     files: &Files,
@@ -132,7 +132,7 @@ fn globals_written(
     }
 }
 
-/// The check of the files that were read; the answer is whether there is nothing against any.
+/// The check of the files that were read. The answer is whether there is nothing against any file.
 fn check_written(
     alloc: Global,
     files: &Files,

@@ -1,4 +1,4 @@
--- What stands ahead in a buffer.
+-- The bytes that a buffer has ahead.
 use Rattle.std.proofs.Common.{◌≡◌, ◌<◌, ◌≤◌, ◌+◌, ◌-◌, ℕ, suc, List, ◌∷◌, Bool, true, false, Option, None, Some, length, take, drop, get_or, refl, ap, sym, ◌∙◌, subst, arith}
 use Rattle.std.specs.Prelude.{MatchOption}
 use Rattle.std.specs.List.{slice_range}
@@ -9,7 +9,7 @@ use Rattle.std.proofs.Math.Seq.{drop-cons}
 use Rattle.memchr.specs.Find.{IsFirstByte, Passes, is_byte}
 use Rattle.star_session.specs.Lines.{IsOneLine, is_end}
 
--- the others
+-- the bytes ahead but for the first `count`
 pub rest : (buffer : List ℕ) (start end count : ℕ) → count ≤ end - start → slice_range buffer (start + count) end ≡ drop count (slice_range buffer start end)
 rest buffer start end count h =
     let n : end - start ≡ count + (end - (start + count)) = omega (arith, h) in
@@ -26,12 +26,12 @@ decided : (b : Bool) → (b ≡ true → ⊥) → b ≡ false
 decided true h = absurd (h refl)
 decided false h = refl
 
--- no line end among bytes in which none is found
+-- bytes in which no line end is found have none
 pub none_found : (bytes : List ℕ) → Nowhere (Passes (is_byte 10) bytes) 0 (length bytes) → IsOneLine bytes
 none_found bytes h k d s =
     decided (is_end (get_or bytes k d)) (λ e. h k (omega arith) s (ap is_end (sym (get_or_default bytes k d 0 s)) ∙ e))
 
--- none before the first that is found
+-- no line end is before the first one that is found
 pub one_found : (bytes : List ℕ) (at : ℕ) → NoneBefore (Passes (is_byte 10) bytes) 0 (length bytes) at → IsOneLine (take at bytes)
 one_found bytes at h k d s =
     let size = length-take-le at bytes (omega (arith, h.high)) in
@@ -39,14 +39,14 @@ one_found bytes at h k d s =
     let same = get_or-take at bytes k d low ∙ get_or_default bytes k d 0 (omega (arith, low, h.high)) in
     decided (is_end (get_or (take at bytes) k d)) (λ e. h.before k (omega arith) low (ap is_end (sym same) ∙ e))
 
--- it stands there
+-- a line end is at the place where one is found
 pub end_found : (bytes : List ℕ) (at : ℕ) → at < length bytes → Passes (is_byte 10) bytes at → drop at bytes ≡ 10 ∷ drop (at + 1) bytes
 end_found bytes at s here =
     let byte : get_or bytes at 0 ≡ 10 = eqb-true (get_or bytes at 0) 10 here in
     let next : suc at ≡ at + 1 = omega arith in
     drop-cons bytes at 0 s ∙ ap (λ b. b ∷ drop (suc at) bytes) byte ∙ ap (λ n. 10 ∷ drop n bytes) next
 
--- where the first line end stands
+-- the place of the first line end, if there is one
 pub end_in : (bytes : List ℕ) (size : ℕ) (r : Option ℕ) → length bytes ≡ size → IsFirstByte (is_byte 10) bytes r
     → MatchOption r (IsOneLine bytes) (λ at. (at < size) × IsOneLine (take at bytes) × (drop at bytes ≡ 10 ∷ drop (at + 1) bytes))
 end_in bytes size None e h = none_found bytes h

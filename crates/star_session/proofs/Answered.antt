@@ -52,13 +52,13 @@ pub refused : (d : Defaults) (before : List File) (line : List ℕ) (v : Data) (
 refused d before line v a e after answer j h same is says =
     inr (same, inr (inr (a, asks_for d line v (Ok a) j h, e, is, subst (λ id. IsRefusal id (text_of e) answer) (id_is line (Ok v) j) says)))
 
--- a value is no request
+-- a value is not a request
 pub misread : (d : Defaults) (before : List File) (line : List ℕ) (v : Data) (why : List ℕ) (after : List File) (answer : List ℕ)
     → value_of line ≡ Ok v → asking_in d v ≡ Err why → after ≡ before → IsRefusal (id_in v) why answer → IsAnswered d before line after answer
 misread d before line v why after answer j h same says =
     inr (same, inr (inl (why, asks_for d line v (Err why) j h, subst (λ id. IsRefusal id why answer) (id_is line (Ok v) j) says)))
 
--- a line is no value
+-- a line is not a value
 pub unreadable : (d : Defaults) (before : List File) (line why : List ℕ) (after : List File) (answer : List ℕ)
     → value_of line ≡ Err why → after ≡ before → IsRefusal null why answer → IsAnswered d before line after answer
 unreadable d before line why after answer j same says =
@@ -93,7 +93,7 @@ pub answered_from : (said : Said) (d : Defaults) (before : List File) (line : Li
 answered_from said d before line v a after answer j h is =
     inl (a, asks_for d line v (Ok a) j h, subst (λ id. IsAnsweredBy said before id a after answer) (id_is line (Ok v) j) is)
 
--- what is answered to a value that is no request
+-- the answer to a value that is not a request
 pub misreads : {V E : Type 0} (r : Result V E) (items : V → List ℕ) (o : Origin) (said : Said) (d : Defaults) (before after : List File) (v : Data) (id : List ℕ) (e : RequestError)
     → IsIdText (id_in v) id → after ≡ before → IsWhy e (asking_in d v) → IfOk r (λ _. e ≢ reason.Memory)
     → IfOk r (λ l. items l ≡ answer_line id (codes "refused") (compact_text (string (spec.text_of e))))
@@ -102,7 +102,7 @@ misreads (Err x) items o said d before after v id e is same cause known says = t
 misreads (Ok l) items o said d before after v id e is same (inl m) known says = absurd (known m)
 misreads (Ok l) items o said d before after v id e is same (inr bad) known says = λ line j. misread_as o said d before line v (spec.text_of e) after (items l) j bad same (id, is, says)
 
--- what is answered to a request that is refused
+-- the answer to a request that is refused
 pub refuses : {V E : Type 0} (r : Result V E) (items : V → List ℕ) (d : Defaults) (before after : List File) (id : List ℕ) (a : Asking) (e : ServeError) (text : List ℕ)
     → after ≡ before → IsRefusalOf before a e → text ≡ text_of e
     → IfOk r (λ l. items l ≡ answer_line id (codes "refused") (compact_text (string text)))
@@ -112,7 +112,7 @@ refuses (Ok l) items d before after id a e text same of named says =
     λ line v is asks j. refused d before line v a e after (items l) j asks same of
     (id, is, says ∙ ap (λ t. answer_line id (codes "refused") (compact_text (string t))) named)
 
--- the bytes of a line, all of which are there
+-- the value of a line that was read whole
 value_ready : (kind : Line) (bytes whole : List ℕ) (v : Data) → kind ≡ line.Ready → json_of bytes ≡ Some v → IsPiece kind bytes whole → value_of whole ≡ Ok v
 value_ready kind bytes whole v is j piece =
     let all : IsPiece line.Ready bytes whole = subst (λ k. IsPiece k bytes whole) is piece in
@@ -140,13 +140,13 @@ long (Err x) items o said d before after kind bytes is same says = tt
 long (Ok l) items o said d before after kind bytes is same says = λ whole piece.
     unreadable_as o said d before whole line_too_long after (items l) (no_room whole (subst (λ k. IsPiece k bytes whole) is piece)) same says
 
--- a refusal of what has no id
+-- a refusal of a line that has no id
 pub null_refusal : {V E : Type 0} (r : Result V E) (items : V → List ℕ) (id text : List ℕ) → IsIdText null id
     → IfOk r (λ l. items l ≡ answer_line id (codes "refused") (compact_text (string text))) → IfOk r (λ l. IsRefusal null text (items l))
 null_refusal (Err x) items id text is says = tt
 null_refusal (Ok l) items id text is says = (id, is, says)
 
--- the same, where memory ran out
+-- the answer to a value, where memory ran out
 pub lost_misreads : {V E : Type 0} (r : Result V E) (o : Origin) (said : Said) (d : Defaults) (before after : List File) (v : Data) → after ≡ before
     → IfErr r (λ _. (line : List ℕ) → value_of line ≡ Ok v → IsAnsweredAs o said d before line after no_memory_line)
 lost_misreads (Ok l) o said d before after v same = tt
@@ -163,7 +163,7 @@ pub lost_line : {V E : Type 0} (r : Result V E) (o : Origin) (said : Said) (d : 
 lost_line (Ok l) o said d before after kind bytes same = tt
 lost_line (Err x) o said d before after kind bytes same = λ whole piece. lost_as o said d before whole after same
 
--- what is answered to a request, by where the files come from
+-- the answer to a request, by where the files come from
 pub by_sent : {V E : Type 0} (r : Result V E) (items : V → List ℕ) (o : Origin) (said : Said) (d : Defaults) (before after : List File) (id : List ℕ) (a : Asking) → o ≡ origin.Sent
     → IfOk r (λ l. (line : List ℕ) (v : Data) → IsIdText (id_in v) id → asking_in d v ≡ Ok a → value_of line ≡ Ok v → IsAnswered d before line after (items l))
     → IfOk r (λ l. (line : List ℕ) (v : Data) → IsIdText (id_in v) id → asking_in d v ≡ Ok a → value_of line ≡ Ok v → IsAnsweredAs o said d before line after (items l))
@@ -191,7 +191,7 @@ lost_folder (Ok l) o said d before after a is h = tt
 lost_folder (Err x) o said d before after a is h = λ line v asks j.
     subst (λ p. IsAnsweredAs p said d before line after no_memory_line) (sym is) (lost_from said d before line v a after j asks h)
 
--- what is answered to a request is answered to its value
+-- the answer to a request is the answer to its value
 pub of_request : {V E : Type 0} (r : Result V E) (P : V → List ℕ → Type 0) (Id : Data → Type 0) (v : Data) (asks : Data → Type 0) → Id v → asks v
     → IfOk r (λ l. (line : List ℕ) (u : Data) → Id u → asks u → value_of line ≡ Ok u → P l line) → IfOk r (λ l. (line : List ℕ) → value_of line ≡ Ok v → P l line)
 of_request (Err x) P Id v asks id a h = tt

@@ -1,4 +1,4 @@
--- What a request asks for, member by member.
+-- A request, member by member.
 use Rattle.std.proofs.Common.{◌≡◌, ℕ, ◌<◌, List, [], ◌∷◌, ◌++◌, Bool, true, false, Option, Some, None, Result, Ok, Err, length, inl, inr, refl, ap, sym, ◌∙◌, append_assoc, arith}
 use Rattle.std.specs.Prelude.{option_map}
 use Rattle.std.proofs.lemmas.List.{append-nil}
@@ -19,7 +19,7 @@ use Rattle.star_session.specs.Requests.{◌>>=◌, Asking, IsWhy, bad_changed, b
 abbrev pub after : {A : Type 0} → List A → Result (List A) (List ℕ) → Result (List A) (List ℕ)
 after front r = r >>= λ xs. Ok (front ++ xs)
 
--- .. one more of which is known
+-- .. where one more item goes to the front
 onto : {A : Type 0} (front : List A) (x : A) (r : Result (List A) (List ℕ)) → after front (r >>= λ xs. Ok (x ∷ xs)) ≡ after (front ++ x ∷ []) r
 onto front x (Err why) = refl
 onto front x (Ok xs) = ap Ok (sym (append_assoc front (x ∷ []) xs))
@@ -108,7 +108,7 @@ pub nothing_left : {A : Type 0} (es : List A) → (0 < length es → false ≡ t
 nothing_left [] h = refl
 nothing_left (e ∷ es) h = let wrong : false ≡ true = h (omega arith) in cc
 
--- what `normal_label` answers of a text
+-- the answer of `normal_label` for a text
 pub label_is : (t : List ℕ) (o : Option Label) (l : Label) → option_map text_of o ≡ if_label t → o ≡ Some l → (is_label t ≡ true) × (text_of l ≡ t)
 label_is t o l h e = from (is_label t) refl
   where

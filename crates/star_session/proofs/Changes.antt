@@ -1,4 +1,4 @@
--- Files in a map by their labels, and what changes leave of them.
+-- Files in a map by their labels, and the files after changes.
 use Rattle.std.proofs.Common.{◌≡◌, ℕ, zero, suc, ◌+◌, ◌<◌, List, [], ◌∷◌, ◌++◌, map, length, take, refl, ap, sym, subst, ◌∙◌, Option, Some, None, String, string_bytes, arith, Bool, true, false}
 use Rattle.std.specs.declared.alloc.Global.{Global}
 use Rattle.std.specs.declared.cmp.Ordering.{Ordering}
@@ -73,7 +73,7 @@ all_files (f ∷ fs) = ap (λ r. f ∷ r) (all_files fs)
 R_same : (l : List ℕ) → R l l ≡ Equal
 R_same l = (Equal-is (R l l)).0 (is_eq-slice_cmp l l ∙ (bytes_eq-Decides l l).1 refl)
 
--- a text that is put where it stands
+-- a text that is put where it already is
 pub put_again : (files : List File) (n : ℕ) (l t : List ℕ) → IsOrdered files → n < length files → label_at files n ≡ l → text_at files n ≡ t → insert_entry R files l t ≡ files
 unfolding IsStrictlySortedBy
 put_again [] n l t h s is same = absurd (omega (arith, s))

@@ -1,4 +1,4 @@
--- What is asked for of files after changes, and its refusals.
+-- The question about the files after changes, and its refusals.
 use Rattle.std.proofs.Common.{◌≡◌, ℕ, List, [], ◌∷◌, ◌++◌, Bool, subst, Option, None, Some, Result, Ok, Err, String, Bor, Global, string_bytes, inl, inr, refl, ap, sym, ◌∙◌}
 use Rattle.std.specs.Prelude.{◌⊎◌}
 use Rattle.std.specs.Option.{option_copied, option_map}
@@ -32,7 +32,7 @@ fails_or_memory e given h = inl h
 abbrev limited : List File → Asking → Result (List File) ServeError
 limited before a = within_limits (files_after before a.changes) (limit_passed (files_after before a.changes))
 
--- files that pass a limit
+-- files over a limit
 pub limit_refused : (before : List File) (a : Asking) (e : ServeError) → Fails e (limited before a) → IsRefusalOf before a e
 limit_refused before a e h = by (fails_or_memory e (limited before a) h)
   where
@@ -40,7 +40,7 @@ limit_refused before a e h = by (fails_or_memory e (limited before a) h)
     by (inl is) = inl (ap (λ r. r >>= λ files. asked_among a.roots a.prelude files) is)
     by (inr is) = inr (inl is)
 
--- words that are no labels of them
+-- words that are not labels of these files
 pub words_refused : (before files : List File) (a : Asking) (roots : List (List ℕ)) (prelude : Option (List ℕ)) (e : ServeError) → limited before a ≡ Ok files → roots ≡ a.roots → prelude ≡ a.prelude → Fails e (asked_among roots prelude files) → IsRefusalOf before a e
 words_refused before files a roots prelude e ok rs p h = by (fails_or_memory e (asked_among roots prelude files) h)
   where
@@ -61,18 +61,18 @@ with_files files (Ok ns) (Ok q) a e = let same : record { files = files; roots =
 with_files files (Ok ns) (Err x) a e = absurd (let no : ⊥ = cc in no)
 with_files files (Err x) p a e = absurd (let no : ⊥ = cc in no)
 
--- what is asked for is asked for of these files
+-- the files of an input are those that its words are looked up in
 pub asked_files : (roots : List (List ℕ)) (p : Option (List ℕ)) (files : List File) (a : Asked) → asked_among roots p files ≡ Ok a → a.files ≡ files
 unfolding asked_among
 asked_files roots p files a e = with_files files (roots_of files roots) (prelude_of files p) a e
 
--- files that pass no limit
+-- files within all limits
 pub limits_kept : (made entries files : List File) → entries ≡ files → limit_passed entries ≡ None → made ≡ entries → within_limits files (limit_passed files) ≡ Ok made
 limits_kept made entries files e none is =
     let free : limit_passed files ≡ None = ap limit_passed (sym e) ∙ none in
     ap (within_limits files) free ∙ ap Ok (sym (is ∙ e))
 
--- a report for what is asked among files that pass no limit
+-- a report for the words that are looked up among files within all limits
 pub report_of_asked : (before files : List File) (a : Asking) (roots : List (List ℕ)) (prelude : Option (List ℕ)) (asked : Asked) (report : List ℕ) (ok : Bool)
     → limited before a ≡ Ok files → files ≡ files_after before a.changes → roots ≡ a.roots → prelude ≡ a.prelude → asked_among roots prelude files ≡ Ok asked
     → InPlanOf asked.files asked.roots asked.prelude a.steps (λ plan. IsOutput (Report a.wanted) asked.files plan (report ++ 10 ∷ []) ok)
@@ -86,7 +86,7 @@ report_of_asked before files a roots prelude asked report ok limits same rs p h 
       reports = is;
     }
 
--- a report is that of a question, whatever changes a request makes before
+-- a report that answers a question answers a request with that question, whatever its changes
 pub of_request : (r : Request) (files : List File) (report : List ℕ) → IsReportOf files (question_of r.question) report → IsReportOf files (asked_by r) report
 of_request r files report h = record {
   asked = h.asked;
@@ -103,7 +103,7 @@ of_asked r files report h = record {
   reports = h.reports;
 }
 
--- what was asked for is asked again
+-- a request that asks the last question again has the last report
 pub asked_again : (r : Request) (l : Last) (files : List File) (report : List ℕ) → question_of l.question ≡ question_of r.question → IsReportOf files (question_of l.question) l.report.items → report ≡ l.report.items
     → IsReportOf files (asked_by r) report
 asked_again r l files report same h is = of_request r files report (subst (λ b. IsReportOf files b report) same (subst (IsReportOf files (question_of l.question)) (sym is) h))

@@ -7,7 +7,7 @@ use Rattle.star_repo.specs.Held.{Said, TellsFront}
 use Rattle.star_session.specs.Changes.{Change}
 use Rattle.star_session.specs.Folders.{known_at, text_named, told}
 
--- a label is there first, or not
+-- the label is the label of the first file, or it is not
 here : (f : File) (fs : List File) (l : List ℕ) → f.0 ≡ l → text_named l (f ∷ fs) ≡ Some f.1
 here f fs l e = let same : bytes_eq f.0 l ≡ true = (bytes_eq-Decides f.0 l).1 e in rw same refl
 
@@ -43,7 +43,7 @@ only_there o n m e f = cc
 pub not_there : (o : Option ℕ) (m : ℕ) → o ≡ None → o ≡ Some m → ⊥
 not_there o m e f = cc
 
--- what is told of a file that is known and has not changed, and of another one
+-- the text of a file that is known and has not changed is the known one, and another file is as the folder tells it
 pub told_known : (said : Said) (known : List File) (changes : List Change) (l t front : List ℕ) → known_at known changes l ≡ Some t → front ≡ take 1048577 t → TellsFront (told said known changes l) (Some front)
 told_known said known changes l t front h e = rw h (ap Some e)
 

@@ -36,7 +36,7 @@ all_first P x xs h = h 0 x (omega arith)
 pub all_others : {A : Type 0} (P : A → Type 0) (x : A) (xs : List A) → All P (x ∷ xs) → All P xs
 all_others P x xs h k d s = h (suc k) d (omega (arith, s))
 
--- lines with their line ends, and what comes after them
+-- lines with their line ends, and the text after them
 pub first_lines : (ls : List (List ℕ)) (rest : List ℕ) → All IsOneLine ls → lines_of (concat (map ended ls) ++ rest) ≡ ls ++ lines_of rest
 first_lines [] rest h = refl
 first_lines (l ∷ ls) rest h =
@@ -44,7 +44,7 @@ first_lines (l ∷ ls) rest h =
     ∙ next_line l (concat (map ended ls) ++ rest) (all_first IsOneLine l ls h)
     ∙ ap (λ ms. l ∷ ms) (first_lines ls rest (all_others IsOneLine l ls h))
 
--- what comes after the last line end
+-- the text after the last line end
 pub last_line : (l : List ℕ) → IsOneLine l → l ≢ [] → lines_of l ≡ l ∷ []
 unfolding lines_of
 last_line [] one some = absurd (some refl)

@@ -27,7 +27,7 @@ Gives-all a b c x y h g = (Gives-more a b c x y h g.0, g.1, g.2)
 pub Adds-concat : (a b c : Option (List ℕ)) (xs ys : List (List ℕ)) → Adds a b (concat xs) → Adds b c (concat ys) → Adds a c (concat (xs ++ ys))
 Adds-concat a b c xs ys h g = subst (Adds a c) (sym (concat-append xs ys)) (Adds-more a b c (concat xs) (concat ys) h g)
 
--- what stood ahead and was read, in two steps
+-- the bytes that were ahead, and those that were read in two steps
 split_on : (ahead g1 first mid g2 more left : List ℕ) → ahead ++ g1 ≡ first ++ mid → mid ++ g2 ≡ more ++ left → ahead ++ (g1 ++ g2) ≡ first ++ (more ++ left)
 split_on ahead g1 first mid g2 more left h k =
     sym (append_assoc ahead g1 g2) ∙ ap (λ t. t ++ g2) h ∙ append_assoc first mid g2 ∙ ap (λ t. first ++ t) k
@@ -116,7 +116,7 @@ no_rest d s0 s1 h0 t f took = record {
   answered = subst (λ ls. AreAnswered d f ls f []) (sym (ap lines_of took.split ∙ no_line)) refl;
 }
 
--- what was read from the start, of files that were none
+-- the rest of a session from its start, where there are no files
 pub session : (d : Answering) (s0 s1 : Said) (t0 t1 : Option (List ℕ)) → IsRest d s0 s1 [] t0 t1 [] → IsSession d s0 s1 t0 t1
 session d s0 s1 t0 t1 r =
     record { input = r.given; all_read = r.all_read; answers = r.answers; writes = r.writes; after = r.after; answered = r.answered }
@@ -127,13 +127,13 @@ pub step : (d : Answering) (s0 s1 : Said) (h0 h1 line : List ℕ) (t0 t1 : Optio
 step d s0 s1 h0 h1 line t0 t1 f0 f1 answer false took one wrote is = one_part d s0 s1 h0 h1 line t0 t1 f0 f1 answer took one wrote is
 step d s0 s1 h0 h1 line t0 t1 f0 f1 answer true took one wrote is = last_part d s0 s1 h0 line t0 t1 f0 f1 answer took.0 one took.1 wrote is
 
--- the answer to bytes is that to the line of which they are
+-- the answer to the bytes of a line is the answer to the line
 pub of_piece : {V E : Type 0} (r : Result V E) (items : V → List ℕ) (d : Answering) (before after : List File) (kind : Line) (bytes line : List ℕ) → IsPiece kind bytes line
     → IfOk r (λ v. (whole : List ℕ) → IsPiece kind bytes whole → d before whole after (items v)) → IfOk r (λ v. d before line after (items v))
 of_piece (Ok v) items d before after kind bytes line piece h = h line piece
 of_piece (Err e) items d before after kind bytes line piece h = tt
 
--- the bytes that are written where there may be no memory for an answer
+-- the bytes that are written: the answer, or the line for want of memory
 pub said_answered : {V E : Type 0} (r : Result V E) (items : V → List ℕ) (d : Answering) (before after : List File) (line said : List ℕ)
     → IfOk r (λ v. d before line after (items v)) → IfErr r (λ _. d before line after no_memory_line) → MatchResult r (λ v. said ≡ items v) (λ _. said ≡ no_memory_line) → d before line after said
 said_answered (Ok v) items d before after line said ok err is = subst (d before line after) (sym is) ok

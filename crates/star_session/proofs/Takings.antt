@@ -31,7 +31,7 @@ Consumes-none (Some x) = refl
 pub Gives-none : (s : Said) → Gives s s []
 Gives-none s = (Adds-none s.given, Consumes-none s.left)
 
--- all that stood ahead is of the line, and more was read
+-- all bytes ahead belong to the line, and more were read
 pub goes_on : (old mid new : Said) (ahead left more : List ℕ) (kind now : Line) (items items' : List ℕ) (n : ℕ) → IsBegun old mid ahead left kind items → IsOneLine left → n ≡ length left
     → ((bytes : List ℕ) → IsPiece kind items bytes → IsPiece now items' (bytes ++ take n left)) → Gives mid new more → IsBegun old new ahead more now items'
 goes_on old mid new ahead left more kind now items items' n h one all adds gives = record {
@@ -43,7 +43,7 @@ goes_on old mid new ahead left more kind now items items' n h one all adds gives
   piece = subst (λ t. IsPiece now items' (h.bytes ++ t)) (ap (λ m. take m left) all ∙ take-length left) (adds h.bytes h.piece);
 }
 
--- the line end stands ahead
+-- the line end is among the bytes ahead
 pub taken : (old new : Said) (ahead left mid rest : List ℕ) (kind now : Line) (items items' : List ℕ) (at : ℕ) → IsBegun old new ahead left kind items → IsOneLine (take at left)
     → drop at left ≡ 10 ∷ drop (at + 1) left → ((bytes : List ℕ) → IsPiece kind items bytes → IsPiece now items' (bytes ++ take at left)) → mid ≡ drop at left → rest ≡ drop 1 mid
     → IsNext old new ahead rest items' (Some (record { line = now; is_last = false }))

@@ -24,21 +24,22 @@ answer_line id name json = codes "{\"id\":" ++ (id ++ (codes ",\"" ++ (name ++ (
 abbrev pub no_memory_line : List ℕ
 no_memory_line = codes "{\"id\":null,\"refused\":\"out of memory\"}\n"
 
--- what is asked for of these files, or the refusal of it: of the limits of files, of the roots, of the prelude
+-- the input that a request asks for among these files, or its refusal: by the limits of files, by the roots, by the
+-- prelude
 abbrev pub asks_among : List File → Asking → Result Asked ServeError
 asks_among files a = within_limits files (limit_passed files) >>= λ fs. asked_among a.roots a.prelude fs
 
--- .. of the files after the changes
+-- .. among the files after the changes
 abbrev pub asked_after : List File → Asking → Result Asked ServeError
 asked_after before a = asks_among (files_after before a.changes) a
 
--- this is the text of the report of what is asked for, with what is wanted more, but for its line end
+-- this is the text of the report of the input, with the further members that are wanted, without its line end
 abbrev pub IsReportText : Wanted → Asked → ℕ → List ℕ → Type 0
 IsReportText wanted asked steps report = (ok : Bool) × InPlanOf asked.files asked.roots asked.prelude steps
     (λ plan. IsOutput (Report wanted) asked.files plan (report ++ 10 ∷ []) ok)
 
--- This is exactly a report of these files for the roots, the prelude, the steps and what is wanted: its text but for its
--- line end.
+-- This is exactly a report of these files for the roots, the prelude, the steps and the wanted members: its text
+-- without its line end.
 pub record IsReportOf (files : List File) (a : Asking) (report : List ℕ) : Type 0 where
   pub asked : Asked
   pub asks : asks_among files a ≡ Ok asked
@@ -62,12 +63,13 @@ IsRefusal id text answer =
     (id_text : List ℕ) × IsIdText id id_text
     × (answer ≡ answer_line id_text (codes "refused") (compact_text (string text)))
 
--- a request is refused so: by what is asked for, or since a module was not published, or for want of memory
+-- a request is refused so: for its files, its roots or its prelude, or for want of memory, or since a module was not
+-- published
 abbrev pub IsRefusalOf : List File → Asking → ServeError → Type 0
 IsRefusalOf before a e = (asked_after before a ≡ Err e) ⊎ ((e ≡ Memory) ⊎ (e ≡ Unpublished))
 
--- The answer refuses a line: for want of memory, which may come at any time; since the line is not a request, and says
--- why; or by what its request asks for.
+-- The answer refuses a line. Memory ran out, which may come at any time. Or the line is not a request, and the answer
+-- says why. Or its request is refused (`IsRefusalOf`).
 abbrev pub IsRefused : Defaults → List File → List ℕ → List ℕ → Type 0
 IsRefused defaults before line answer =
     (answer ≡ no_memory_line)
@@ -81,11 +83,11 @@ IsAnswered defaults before line after answer =
     ((a : Asking) × (asking_of defaults line ≡ Ok a) × IsReported before (id_of line) a after answer)
     ⊎ ((after ≡ before) × IsRefused defaults before line answer)
 
--- what an answer to a line is: the files before it, the line, the files after it, and the answer
+-- how a line is answered: a relation of the files before it, the line, the files after it, and the answer
 abbrev pub Answering : Type 1
 Answering = List File → List ℕ → List File → List ℕ → Type 0
 
--- Lines are answered one after another, each by one line; the files after one are those before the next.
+-- Lines are answered one after another, each by one line. The files after one line are the files before the next.
 abbrev pub AreAnswered : Answering → List File → List (List ℕ) → List File → List (List ℕ) → Type 0
 AreAnswered answering before [] after [] = after ≡ before
 AreAnswered answering before [] after (x ∷ xs) = ⊥
@@ -104,7 +106,7 @@ abbrev pub AnswersValue : Answering → Data → List File → List File → Lis
 AnswersValue answering v before after answer =
     (line : List ℕ) → value_of line ≡ Ok v → answering before line after answer
 
--- each line of which these are the bytes is answered so
+-- each line that was read as these bytes is answered so
 abbrev pub AnswersPiece : Answering → Line → List ℕ → List File → List File → List ℕ → Type 0
 AnswersPiece answering kind bytes before after answer =
     (line : List ℕ) → IsPiece kind bytes line → answering before line after answer

@@ -1,4 +1,4 @@
--- The files of requests: what changes leave of them.
+-- The files of requests, and the files after changes.
 use Rattle.std.specs.Prelude.{ℕ, List, [], ◌∷◌, Option, Some, None, String, option_map, string_bytes}
 use Rattle.std.specs.declared.alloc.Global.{Global}
 use Rattle.std.specs.BTreeMap.{insert_entry, is_at}

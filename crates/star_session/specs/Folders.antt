@@ -1,4 +1,4 @@
--- Requests about the files of a folder: what is known of them, and the answers.
+-- Requests about the files of a folder: the known files, and the answers.
 use Rattle.std.specs.Prelude.{◌≡◌, ◌⊎◌, ℕ, List, [], ◌∷◌, ◌++◌, Bool, false, ◌||◌, Option, None, Some, Err, Ok, codes, if◌then◌else◌}
 use Rattle.std.specs.Str.{bytes_eq}
 use Rattle.serde_json.specs.Data.{Data}
@@ -29,7 +29,7 @@ abbrev pub is_changed : List ℕ → List Change → Bool
 is_changed l [] = false
 is_changed l (c ∷ cs) = bytes_eq c.0 l || is_changed l cs
 
--- a text that is known, or else what a folder says
+-- a text that is known, or else the one that a folder tells
 abbrev pub told_or : Option (Option (List ℕ)) → Option (List ℕ) → Option (Option (List ℕ))
 told_or said None = said
 told_or said (Some text) = Some (Some text)
@@ -38,7 +38,8 @@ told_or said (Some text) = Some (Some text)
 abbrev pub known_at : List File → List Change → List ℕ → Option (List ℕ)
 known_at known changes l = if is_changed l changes then None else text_named l known
 
--- what is told of a folder: the files that are known and have not changed, and what it says of the others
+-- the files of a folder for a request: those that are known and have not changed, and the others as the folder tells
+-- them
 abbrev pub told : Said → List File → List Change → Said
 told said known changes l = told_or (said l) (known_at known changes l)
 
@@ -59,31 +60,30 @@ abbrev pub text_for : RepoError → List ℕ
 text_for (why.File label e) = text_of e ++ (codes ": " ++ view.text_of label)
 text_for (why.Run e) = text_of e
 
--- what is known after a request: the files that it looked at; or nothing; or what was known before
+-- the files that are known after a request: those that it looked at, or none, or those that were known before
 abbrev pub IsKnown : Said → List File → Asking → List File → Type 0
 IsKnown said before a after = AreLookedAt said before a after ⊎ ((after ≡ []) ⊎ (after ≡ before))
 
--- a question about these files is answered by their report, or by a refusal of what is asked for
+-- a question about these files is answered by their report, or by a refusal of the question
 abbrev pub IsReportedOrRefused : Data → Asking → List File → List ℕ → Type 0
 IsReportedOrRefused id a files answer =
     IsReported files id a files answer
     ⊎ ((e : ServeError) × IsRefusalOf files a e × IsRefusal id (text_of e) answer)
 
--- whatever the id of a request is of which this is the text: its question about these files is answered so, and the
--- files stay
+-- for each id with this text, the question of a request about these files is answered so, and the files stay
 abbrev pub AnswersSeen : List ℕ → Asking → List File → List File → List ℕ → Type 0
 AnswersSeen id a before after answer =
     (d : Data) → IsIdText d id → (after ≡ before) × IsReportedOrRefused d a before answer
 
--- A request is answered: by the report of the files that it looked at, or by a refusal of what is asked for of these
--- files; or they are not read, and then nothing is known any more.
+-- A request is answered by the report of the files that it looked at, or by a refusal of its question about these
+-- files. Or the files are not read: the answer says why, and no file is known any more.
 abbrev pub IsAnsweredBy : Said → List File → Data → Asking → List File → List ℕ → Type 0
 IsAnsweredBy said before id a after answer =
     (AreLookedAt said before a after × IsReportedOrRefused id (again a) after answer)
     ⊎ ((after ≡ []) × (e : RepoError) × IsUnseen said before a e × IsRefusal id (text_for e) answer)
 
--- A line is answered, of a folder that says so: by its request; or it is not a request, and then what is known stays; or
--- memory ran out, which may come at any time.
+-- A line is answered about a folder that tells this. The answer is the answer to its request. Or the line is not a
+-- request, and the known files stay. Or memory ran out, which may come at any time.
 abbrev pub IsAnsweredFrom : Said → Defaults → Answering
 IsAnsweredFrom said defaults before line after answer =
     ((a : Asking) × (asking_of defaults line ≡ Ok a) × IsAnsweredBy said before (id_of line) a after answer)
@@ -91,7 +91,7 @@ IsAnsweredFrom said defaults before line after answer =
     ⊎ ((answer ≡ no_memory_line)
     × ((after ≡ before) ⊎ ((a : Asking) × (asking_of defaults line ≡ Ok a) × IsKnown said before a after))))
 
--- .. or of files that requests send
+-- .. or about files that requests send
 abbrev pub IsAnsweredAs : Origin → Said → Defaults → Answering
 IsAnsweredAs Sent said defaults = IsAnswered defaults
 IsAnsweredAs Folder said defaults = IsAnsweredFrom said defaults
@@ -119,6 +119,6 @@ LosesRequestIn said defaults request before after =
     (line : List ℕ) (v : Data) → asking_in defaults v ≡ Ok (asked_by request) → value_of line ≡ Ok v
     → IsAnsweredIn said defaults before line after no_memory_line
 
--- whatever the id of a request is of which this is the text, it is answered so
+-- for each id with this text, a request is answered so
 abbrev pub AnswersBy : Said → List ℕ → Asking → List File → List File → List ℕ → Type 0
 AnswersBy said id a before after answer = (d : Data) → IsIdText d id → IsAnsweredBy said before d a after answer

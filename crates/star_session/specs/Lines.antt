@@ -1,4 +1,4 @@
--- The lines of a stream, and what stands of it ahead of what was taken.
+-- The lines of a stream, and its bytes that were read and not taken.
 use Rattle.std.specs.Prelude.{◌≡◌, ◌≢◌, ◌≤◌, ◌<◌, ◌==◌, ◌+◌, ◌-◌, ℕ, List, [], ◌∷◌, ◌++◌, Bool, true, false, Option, None, Some, drop, length, take}
 use Rattle.std.specs.List.{All, slice_range, slice_split}
 use Rattle.star_serve.specs.Stream.{Gives, GivesAll, Said}
@@ -22,7 +22,7 @@ without_last ([] ∷ []) = []
 without_last ((x ∷ xs) ∷ []) = (x ∷ xs) ∷ []
 without_last (part ∷ p ∷ ps) = part ∷ without_last (p ∷ ps)
 
--- the lines of a text: what stands before each line end, and what stands after the last one, unless it is empty
+-- the lines of a text: the bytes before each line end, and those after the last one unless there are none
 unfoldable pub lines_of : List ℕ → List (List ℕ)
 lines_of text = without_last (slice_split is_end text)
 
@@ -30,7 +30,7 @@ lines_of text = without_last (slice_split is_end text)
 abbrev pub IsOneLine : List ℕ → Type 0
 IsOneLine line = All (λ b. is_end b ≡ false) line
 
--- what was read and not taken
+-- the bytes that were read and not taken
 abbrev pub ahead_of : Lines → List ℕ
 ahead_of lines = slice_range lines.buffer.items lines.start lines.end
 
@@ -40,23 +40,24 @@ IsLineEnd lines at =
     (at < lines.end - lines.start) × IsOneLine (take at (ahead_of lines))
     × (drop at (ahead_of lines) ≡ 10 ∷ drop (at + 1) (ahead_of lines))
 
--- it lies in the buffer, which has room
+-- the bytes ahead lie in the buffer, which is not empty
 abbrev pub IsCut : Lines → Type 0
 IsCut lines = (lines.start ≤ lines.end) × (lines.end ≤ length lines.buffer.items) × (0 < length lines.buffer.items)
 
--- what there is of a line with these bytes
+-- the part that is kept of a line with these bytes, by how it was read
 abbrev pub IsPiece : Line → List ℕ → List ℕ → Type 0
 IsPiece Ready line bytes = (line ≡ bytes) × (length bytes ≤ line_limit)
 IsPiece TooLong line bytes = line_limit < length bytes
 IsPiece Lost line bytes = bytes ≢ []
 
--- between old and new, with what stood ahead and what now does, these bytes were taken with the line end after them
+-- between old and new these bytes were taken, with the line end after them: `ahead` was ahead before, and `left` is
+-- ahead now
 pub record Takes (old new : Said) (ahead left line : List ℕ) : Type 0 where
   pub given : List ℕ
   pub gives : Gives old new given
   pub split : ahead ++ given ≡ line ++ 10 ∷ left
 
--- all that stood ahead and was left was taken, and is these bytes
+-- all bytes that were ahead and all that the stream had left were taken, and they are these
 pub record TakesAll (old new : Said) (ahead line : List ℕ) : Type 0 where
   pub given : List ℕ
   pub all_read : GivesAll old new given
@@ -67,7 +68,7 @@ abbrev pub IsTaken : Said → Said → List ℕ → List ℕ → List ℕ → Bo
 IsTaken old new ahead left line false = Takes old new ahead left line
 IsTaken old new ahead left line true = TakesAll old new ahead line × (line ≢ [])
 
--- the next line was taken, of which there is this; or there was none
+-- the next line was taken, and this is its kept part, or there was no line
 abbrev pub IsNext : Said → Said → List ℕ → List ℕ → List ℕ → Option Taken → Type 0
 IsNext old new ahead left items None = TakesAll old new ahead []
 IsNext old new ahead left items (Some t) =

@@ -17,8 +17,8 @@ use Rattle.star_session.specs.declared.request.Request.{Request}
 use Rattle.star_session.specs.declared.request.RequestError.{RequestError}
 use Rattle.star_session.specs.declared.request.RequestError.TheVariants.{NotObject, NoRoots, BadRoots, NoMember, BadFiles, NoFiles, BadChanged, BadLabel, BadPrelude, BadSteps, BadWith, Memory}
 
--- what is asked for: changes of the files, and the report of the files after them, for these roots, with this prelude,
--- these steps for each file, and what is wanted
+-- A request: changes of the files, and the report of the files after them. The report is for these roots, with this
+-- prelude, these steps for each file, and these wanted members.
 pub record Asking : Type 0 where
   pub changes : List Change
   pub roots : List (List ℕ)
@@ -36,7 +36,7 @@ abbrev pub ◌>>=◌ : {A B : Type 0} → Result A (List ℕ) → (A → Result 
 (Ok x) >>= f = f x
 (Err why) >>= f = Err why
 
--- there, or refused so
+-- the value that is there, or else this refusal
 abbrev pub there_or : {A : Type 0} → List ℕ → Option A → Result A (List ℕ)
 there_or why None = Err why
 there_or why (Some x) = Ok x
@@ -50,7 +50,7 @@ text_or_null (string s) = Some (Some s)
 text_or_null (array ds) = None
 text_or_null (object ms) = None
 
--- the texts of refusals stand before what is refused so
+-- the texts of refusals: this one ends with the label that is refused
 abbrev pub bad_label : List ℕ → List ℕ
 bad_label label = codes "bad label in `files`: " ++ label
 
@@ -143,7 +143,7 @@ steps_in d = do
 abbrev pub bad_with : List ℕ
 bad_with = codes "`with` must be an array of some of values, loads, steps, only-roots"
 
--- with what a word names
+-- the wanted members, with the one that a word names
 unfoldable pub with_word : Wanted → List ℕ → Result Wanted (List ℕ)
 with_word w word =
     if bytes_eq word (codes "values")
@@ -156,7 +156,7 @@ with_word w word =
     then Ok (record { values = w.values; loads = w.loads; steps = w.steps; only_roots = true })
     else Err bad_with)))
 
--- .. and what further words name
+-- .. and with those that further words name
 unfoldable pub with_words : Wanted → Items → Result Wanted (List ℕ)
 with_words w no_items = Ok w
 with_words w (item d ds) = do
@@ -168,11 +168,11 @@ with_words w (item d ds) = do
 abbrev pub nothing_more : Wanted
 nothing_more = record { values = false; loads = false; steps = false; only_roots = false }
 
--- what a value wants
+-- the wanted members that a value names
 abbrev pub wanted_in : Data → Result Wanted (List ℕ)
 wanted_in d = there_or bad_with (as_array d) >>= with_words nothing_more
 
--- what is asked for, with what a member says; the members `id` and `roots` are looked up beside
+-- A request with a further member taken into it. The members `id` and `roots` are looked up separately.
 unfoldable pub with_member : Origin → Asking → List ℕ → Data → Result Asking (List ℕ)
 with_member origin a name d =
     if bytes_eq name (codes "id") || bytes_eq name (codes "roots") then Ok a
@@ -193,12 +193,12 @@ with_member origin a name d =
     Ok (record { changes = a.changes; roots = a.roots; prelude = a.prelude; steps = a.steps; wanted = w }))
     else Err (no_member name))))))
 
--- .. with what further members say
+-- .. with further members
 unfoldable pub with_members : Origin → Asking → Members → Result Asking (List ℕ)
 with_members origin a no_members = Ok a
 with_members origin a (member k d ms) = with_member origin a k d >>= λ more. with_members origin more ms
 
--- what a request without a further member asks for
+-- the request that has these roots and no further member
 abbrev pub plain : Defaults → List (List ℕ) → Asking
 plain defaults roots = record {
   changes = [];
@@ -211,7 +211,7 @@ plain defaults roots = record {
 abbrev pub not_object : List ℕ
 not_object = codes "not a JSON object"
 
--- what a value asks for, or why it is not a request
+-- the request that a value is, or why it is not one
 unfoldable pub asking_in : Defaults → Data → Result Asking (List ℕ)
 asking_in defaults d = do
   members ← there_or not_object (as_object d)
@@ -226,7 +226,7 @@ unfoldable pub value_of : List ℕ → Result Data (List ℕ)
 value_of line =
     if nat_lt line_limit (length line) then Err line_too_long else there_or not_object (json_of line)
 
--- what a line asks for, or why it is not a request
+-- the request that a line is, or why it is not one
 abbrev pub asking_of : Defaults → List ℕ → Result Asking (List ℕ)
 asking_of defaults line = value_of line >>= asking_in defaults
 
@@ -234,7 +234,7 @@ asking_of defaults line = value_of line >>= asking_in defaults
 abbrev pub id_in : Data → Data
 id_in d = unwrap_or (get (codes "id") d) null
 
--- .. of what a line is: null where it is no value
+-- .. of the value of a line: null where the line is not a value
 abbrev pub id_within : Result Data (List ℕ) → Data
 id_within (Ok d) = id_in d
 id_within (Err why) = null
@@ -243,11 +243,11 @@ id_within (Err why) = null
 abbrev pub id_of : List ℕ → Data
 id_of line = id_within (value_of line)
 
--- a text is the JSON of an id: where a float is in it, that text is not said beyond its order
+-- A text is the JSON of an id. If the id has a float, no more than `IsInOrder` is certain.
 abbrev pub IsIdText : Data → List ℕ → Type 0
 IsIdText id text = (has_float id ≡ false → text ≡ compact_text id) × IsInOrder text id
 
--- what a question asks for, where no file changes
+-- a question as a request in which no file changes
 abbrev pub question_of : Question → Asking
 question_of q = record {
   changes = [];
@@ -257,7 +257,7 @@ question_of q = record {
   wanted = q.wanted;
 }
 
--- what a request asks for
+-- a request, with its labels and texts as bytes
 abbrev pub asked_by : Request → Asking
 asked_by r = record {
   changes = map change_of r.changes.items;
@@ -282,6 +282,6 @@ text_of BadSteps = bad_steps
 text_of BadWith = bad_with
 text_of Memory = codes "out of memory"
 
--- this is why there is none, or memory ran out
+-- the error is the reason of the refusal, or memory ran out
 abbrev pub IsWhy : {A : Type 0} → RequestError → Result A (List ℕ) → Type 0
 IsWhy e given = (e ≡ Memory) ⊎ (given ≡ Err (text_of e))

@@ -12,8 +12,8 @@ use Rattle.star_session.specs.declared.session.Session.{Session}
 abbrev pub ended : List ℕ → List ℕ
 ended line = line ++ 10 ∷ []
 
--- a part of a session: between old and new lines were taken, each with its line end, of what stood ahead and was read,
--- and what was written is the row of answers to them; the files before it, and after it
+-- A part of a session. Between old and new, lines with their line ends were taken from the bytes that were ahead or
+-- were read. The answers to them were written in a row, and nothing else. `before` and `after` are the files.
 pub record IsPart (answering : Answering) (old new : Said) (ahead left : List ℕ) (wrote written : Option (List ℕ))
     (before after : List File) : Type 0 where
   pub given : List ℕ
@@ -25,8 +25,8 @@ pub record IsPart (answering : Answering) (old new : Said) (ahead left : List �
   pub writes : Adds wrote written (concat answers)
   pub answered : AreAnswered answering before lines after answers
 
--- the rest of a session: all was read up to its end, and what was written is the row of answers to the lines of what
--- stood ahead and was read
+-- The rest of a session: all was read up to its end. The answers to the lines of the bytes that were ahead or were read
+-- were written in a row, and nothing else.
 pub record IsRest (answering : Answering) (old new : Said) (ahead : List ℕ) (wrote written : Option (List ℕ))
     (before : List File) : Type 0 where
   pub given : List ℕ
@@ -51,8 +51,8 @@ IsStepOf said taken answering reader reader' writer writer' old new more =
     IsStep answering (said reader) (said reader') (ahead_of old.lines) (ahead_of new.lines) (taken writer)
     (taken writer') old.standing.files new.standing.files more
 
--- Between old and new all was read up to its end, and what was written is the row of answers to its lines, one a line,
--- where there were no files at first.
+-- Between old and new all was read up to its end. The answers to its lines, one a line, were written in a row, and
+-- nothing else. There are no files at first.
 pub record IsSession (answering : Answering) (old new : Said) (wrote written : Option (List ℕ)) : Type 0 where
   pub input : List ℕ
   pub all_read : GivesAll old new input

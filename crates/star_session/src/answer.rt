@@ -40,7 +40,7 @@ struct Reported {
     reached: Vec<usize>,
 }
 
-/// The report that is asked for, with all that stays of what was kept. The texts that are reached are parsed first,
+/// The report that is asked for, made with the kept values that stay. The texts that are reached are parsed first,
 /// unless they have trees, and their trees are kept.
 fn report_of<H: Threads + Wait + Sync>(
     rt: &H,
@@ -122,7 +122,8 @@ fn files_after(
     }
 }
 
-/// The files after a request, what is kept of them, the report that was asked for, and the files that it reached.
+/// The files after a request, the values that are kept for them, the report that was asked for, and the files that it
+/// reached.
 #[derive(Drop)]
 struct After {
     files: Files,
@@ -192,12 +193,12 @@ fn report_after<H: Threads + Wait + Sync>(
     })
 }
 
-/// What a request may use.
+/// The limits of a request.
 #[derive(Clone, Copy)]
 pub(crate) struct Limits {
     /// How many loaders run, from 1 to 64.
     pub loaders: usize,
-    /// How many bytes the texts may have of which anything is kept for the next request.
+    /// The most bytes that the texts with kept values may have after a request.
     pub keep: usize,
 }
 

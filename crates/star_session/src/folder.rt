@@ -38,7 +38,7 @@ use std::mem;
 use std::sync::Wait;
 use std::thread::Threads;
 
-/// A folder of which some files are known.
+/// A folder, and its files that are known.
 #[derive(Drop)]
 struct KnownRepo<'a, F> {
     folder: F,
@@ -156,8 +156,8 @@ fn files_looked_at<H: Threads + Wait + Sync, F: Repo + Copy>(
     Ok(reached.files)
 }
 
-/// Looks at the files that a request reaches. Those that were known before are known no more, unless they are among
-/// these; if a file is refused, or a root or the prelude is not a label, none are known.
+/// Looks at the files that a request reaches. Files that were known before and are not among these are not known any
+/// more. If a file is refused, or a root or the prelude is not a label, none are known.
 fn look<H: Threads + Wait + Sync, F: Repo + Copy>(
     rt: &H,
     alloc: Global,
@@ -241,8 +241,8 @@ fn seen<H: Threads + Wait + Sync>(
     }
 }
 
-/// The answer to a request about the files of a folder. Files that were looked at for the request before, and have not
-/// changed since by what this one says, are not read again. The error: memory ran out.
+/// The answer to a request about the files of a folder. Files that the request before looked at are not read again,
+/// unless this request says that they have changed. The error: memory ran out.
 pub(crate) fn answered_from<H: Threads + Wait + Sync, F: Repo + Copy>(
     rt: &H,
     alloc: Global,

@@ -1,10 +1,10 @@
 //! A host that stays up: requests on a stream of lines, one answer a line.
 //!
-//! `lines` cuts the stream into lines. `request` reads a line: changes of files, and a question about them.
-//! `standing` has the files as the requests so far leave them, and what is kept of them (`star_memo`): the trees of their
-//! texts, and the outcomes of the files that the last request reached. `answer` runs a request and writes its answer;
-//! `folder` first looks at the files of a folder, if they are not sent; and `session` goes through all requests. The form
-//! of requests and answers is in `docs/REQUESTS.md`.
+//! `lines` cuts the stream into lines. `request` reads a line: changes of files, and a question about them. `standing`
+//! has the files as the requests so far leave them, and the values that are kept for them (`star_memo`): the trees of
+//! their texts, and the outcomes of the files that the last request reached. `answer` runs a request and writes its
+//! answer. If the files are not sent, `folder` first looks at the files of a folder. `session` goes through all
+//! requests. The form of requests and answers is in `docs/REQUESTS.md`.
 #![tactic(auto)]
 
 mod answer;

@@ -11,7 +11,7 @@ use std::alloc::{AllocError, Global};
 use std::sync::Wait;
 
 /// The most bytes of a line that is read as a request.
-const LIMIT: usize = 268_435_456;
+const MOST_BYTES: usize = 268_435_456;
 
 /// How many bytes are asked for at once.
 const CHUNK: usize = 65_536;
@@ -54,7 +54,7 @@ fn extended(line: &mut Vec<u8>, known: Line, piece: &[u8]) -> Line
     if piece.is_empty() || known != Line::Ready {
         return known;
     }
-    if piece.len() > LIMIT.saturating_sub(line.len()) {
+    if piece.len() > MOST_BYTES.saturating_sub(line.len()) {
         return Line::TooLong;
     }
     match line.extend_from_slice(piece) {

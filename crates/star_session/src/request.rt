@@ -358,7 +358,7 @@ fn wanted_in(value: &Value) -> Result<Wanted, RequestError>
     }
 }
 
-/// Takes a member into a request. Its `id` and its roots are looked up beside.
+/// Takes a member into a request. Its `id` and its roots are looked up separately.
 #[tactic(auto, unfolding(crate::specs::Requests::with_member))]
 fn take_member(
     alloc: Global,
@@ -431,7 +431,7 @@ fn with_members(
     Ok(request)
 }
 
-/// The request that a value is. The reason is that of the first thing that is not as it must be.
+/// The request that a value is. The error is about the first thing that is not as it must be.
 #[tactic(auto, unfolding(crate::specs::Requests::asking_in))]
 pub fn request_in(alloc: Global, value: Value, defaults: &Defaults) -> Result<Request, RequestError>
     requires { (1 ≤ defaults.now.steps) × (defaults.now.steps ≤ 100000000) }

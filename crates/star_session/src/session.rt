@@ -37,7 +37,7 @@ pub struct Settings {
     pub loaders: usize,
     /// The seed for the hashes of keys. No answer depends on it.
     pub seed: u64,
-    /// How many bytes the texts may have of which anything is kept for the next request.
+    /// The most bytes that the texts with kept values may have after a request.
     pub keep: usize,
     /// The defaults of a request, for members that it lacks.
     pub defaults: Defaults,
@@ -193,7 +193,7 @@ fn answer<H: Threads + Wait + Sync, F: Repo + Copy>(
     }
 }
 
-/// The bytes of an answer, or those for want of memory if there is none.
+/// The bytes of an answer, or of the line for want of memory if there is no answer.
 fn said(answer: &Result<Vec<u8>, AllocError>) -> &[u8]
     ensures { MatchResult answer.now (λ line. result.now ≡ line.items) (λ _. result.now ≡ no_memory_line) }
 {
@@ -203,14 +203,14 @@ fn said(answer: &Result<Vec<u8>, AllocError>) -> &[u8]
     }
 }
 
-/// The state of a session: what is kept, and the lines that were read.
+/// The state of a session: the files with the values that are kept for them, and the lines that were read.
 #[derive(Drop)]
 struct Session {
     standing: Standing,
     lines: Lines,
 }
 
-/// Writes the answer to the next line. Whether more lines may come.
+/// Writes the answer to the next line. It answers whether more lines may come.
 fn next_answer<H: Threads + Wait + Sync, F: Repo + Copy, R: Source, W: Sink>(
     rt: &H,
     alloc: Global,
@@ -252,11 +252,11 @@ fn next_answer<H: Threads + Wait + Sync, F: Repo + Copy, R: Source, W: Sink>(
 }
 
 /// Answers requests, one a line, each with one line, up to the end of the stream. The files are those that the requests
-/// so far leave: none at first. Or they are those of `folder`, by `settings.defaults.origin`; then a file that the last
+/// so far leave: none at first. Or they are those of `folder`, by `settings.defaults.origin`. Then a file that the last
 /// request looked at is looked at again only if a request says that it has changed.
 ///
-/// `Read` if a read failed, `Write` if a write failed, `Memory` if there is none before the first line. A
-/// request that is refused changes nothing.
+/// `Read` if a read failed, `Write` if a write failed, `Memory` if memory runs out before the first line. A request
+/// that is refused changes nothing.
 pub fn serve_requests<H: Threads + Wait + Sync, F: Repo + Copy, R: Source, W: Sink>(
     rt: &H,
     alloc: Global,

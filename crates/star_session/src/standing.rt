@@ -1,4 +1,4 @@
-//! The files as the requests so far leave them, and what is kept of them.
+//! The files as the requests so far leave them, and the values that are kept for them.
 
 ghost use Rattle.std.specs.Prelude.{◌≡◌, ◌≤◌, true, IfOk, IfSome, OnOk, map, option_map, string_bytes};
 ghost use Rattle.star_label.specs.Files.{file_of};
@@ -31,13 +31,13 @@ pub(crate) struct Last {
     pub report: Vec<u8>,
 }
 
-/// The files as the requests so far leave them, and what is kept of them for the next request.
+/// The files as the requests so far leave them, and the values that are kept for the next request.
 #[derive(Drop)]
 pub(crate) struct Standing {
     pub files: Files,
     /// The results of parsing their texts.
     pub parses: Parses,
-    /// The outcomes of those that ended well.
+    /// The outcomes of the files that ended well.
     pub outcomes: Outcomes,
     /// The last report that was made of these files.
     pub last: Option<Last>,
@@ -47,7 +47,7 @@ pub(crate) struct Standing {
     pub seed: u64,
 }
 
-/// What stays of it when the files change.
+/// The kept values that stay when the files change.
 #[derive(Drop)]
 pub(crate) struct Staying {
     pub parses: Parses,
@@ -141,7 +141,7 @@ fn are_as(files: &Files, changes: &[(Label, Option<String>)]) -> bool
 }
 
 impl Standing {
-    /// These files, of which nothing is kept.
+    /// These files, with nothing kept.
     pub(crate) fn new(alloc: Global, files: Files, seed: u64) -> Standing
         ensures files { result.files ≡ files }
         ensures standing { IsStanding result }
@@ -187,8 +187,8 @@ impl Standing {
         Some(last.report.as_slice())
     }
 
-    /// What stays of all that is kept if these files take the place of those before, under these terms. The outcomes go
-    /// from here. The error: an allocation failed.
+    /// The kept values that stay if these files take the place of the files before, under these terms. The outcomes are
+    /// taken out of `self`. The error: an allocation failed.
     pub(crate) fn staying<H: Threads + Wait + Sync>(
         &mut self,
         rt: &H,
@@ -215,7 +215,7 @@ impl Standing {
         })
     }
 
-    /// These files in the place of those before, with what stays of all that is kept. The error: an allocation failed.
+    /// These files in the place of the files before, with the kept values that stay. The error: an allocation failed.
     pub(crate) fn with_files<H: Threads + Wait + Sync>(
         self,
         rt: &H,

@@ -189,7 +189,7 @@ all_aside needs marks passed rows todo aside clear none all = record {
 -- ---- all is known
 
 module _ (needs : Needs) (marks : List Bool) (passed : List ℕ) (rows : List (List ℕ)) (was : AreWaitingBy needs marks passed rows [] []) where
-  -- none waits for what is known to be sound
+  -- no file waits for one that is known to be sound
   no_wait : (n m : ℕ) → IsMarked marks m → Contains (list_of rows m) n → ⊥
   no_wait n m marked c = by_cases (was.told m marked) (none_in m) (λ empty. none_in n (subst (λ l. Contains l n) empty c))
 
@@ -234,7 +234,7 @@ front_all P xs x all k d less =
     let long = length-append xs (x ∷ []) in
     subst P (get_or_append_left xs (x ∷ []) d k less) (all k d (omega (arith, less, long)))
 
--- where each of the prospects so far is right, and one more
+-- if each of the prospects so far is right, and one more is, all are
 pub prospect_more : (needs : Needs) (xs ys : List Prospect) (n : ℕ) (p : Prospect) → length xs ≡ n → ((k : ℕ) (q : Prospect) → slice_get xs k ≡ Some q → IsProspect needs k q) → IsProspect needs n p → ys ≡ xs ++ p ∷ []
     → (k : ℕ) (q : Prospect) → slice_get ys k ≡ Some q → IsProspect needs k q
 prospect_more needs xs ys n p long all here e k q at = by_cases (cases_lt k (length xs))
@@ -249,7 +249,7 @@ prospect_more needs xs ys n p long all here e k q at = by_cases (cases_lt k (len
     there : slice_get (xs ++ p ∷ []) k ≡ Some q
     there = subst (λ l. slice_get l k ≡ Some q) e at
 
--- what stands at a place of a list
+-- the item at a place of a list
 pub got_some : (xs : List ℕ) (i : ℕ) (r : Option (Bor ℕ)) (x : Bor ℕ) → MatchOption r (length xs ≤ i) (λ y. (i < length xs) × HoldsAt (λ z. y.now ≡ z) xs i) → r ≡ Some x → slice_get xs i ≡ Some x.now
 got_some xs i (Some y) x is e =
     let same : y ≡ x = cc in

@@ -1,3 +1,3 @@
--- Sound says which files have all that they need; Waiting what is known while they are sought.
+-- Sound says which files have all that they need. Waiting has the facts while they are sought.
 pub mod Sound
 pub mod Waiting

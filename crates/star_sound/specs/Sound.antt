@@ -4,7 +4,7 @@ use Rattle.std.specs.Option.{option_map}
 use Rattle.star_sound.specs.declared.sound.Prospect.{Prospect}
 use Rattle.star_sound.specs.declared.sound.Prospect.TheVariants.{Barred, Lacks, Sound}
 
--- for each file the files that it needs; none for one that is barred: it cannot be used, whatever it needs
+-- for each file, the files that it needs. A barred file has `None`: it cannot be used, whatever it needs
 abbrev pub Needs : Type 0
 Needs = List (Option (List ℕ))
 
@@ -15,7 +15,7 @@ rows_of needs = map (option_map (λ v. v.items)) needs
 abbrev pub NeedsAll : Needs → ℕ → List ℕ → Type 0
 NeedsAll needs n ns = slice_get needs n ≡ Some (Some ns)
 
--- all that is needed is a file
+-- each needed file is one of the files
 abbrev pub AreWithin : Needs → Type 0
 AreWithin needs = (n : ℕ) (ns : List ℕ) → NeedsAll needs n ns → All (λ m. m < length needs) ns
 
@@ -30,7 +30,7 @@ pub record IsFirstLack (needs : Needs) (ns : List ℕ) (i : ℕ) : Type 0 where
   pub lacks : IsSound needs file → ⊥
   pub before : (j m : ℕ) → j < i → slice_get ns j ≡ Some m → IsSound needs m
 
--- so it is with a file
+-- this is the prospect of a file
 abbrev pub IsProspect : Needs → ℕ → Prospect → Type 0
 IsProspect needs n Barred = (ns : List ℕ) → NeedsAll needs n ns → ⊥
 IsProspect needs n Sound = IsSound needs n

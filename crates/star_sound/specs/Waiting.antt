@@ -1,4 +1,4 @@
--- What is known while it is sought which files are sound.
+-- The facts while the sound files are sought.
 use Rattle.std.specs.Prelude.{◌≡◌, ◌<◌, ◌+◌, ◌⊎◌, ℕ, List, [], ◌∷◌, ◌++◌, Bool, true, false, All, Contains, Some, count_by, length, map, not, slice_get, slice_index_or}
 use Rattle.star_sound.specs.Sound.{IsSound, Needs, NeedsAll}
 use Rattle.star_sound.specs.declared.sound.Waits.{Waits}
@@ -11,14 +11,14 @@ IsMarked marks n = slice_index_or marks n false ≡ true
 abbrev pub passed_of : List ℕ → ℕ → ℕ
 passed_of passed n = slice_index_or passed n 0
 
--- for each file those that wait for it
+-- for each file, the files that wait for it
 abbrev pub lists : Waits → List (List ℕ)
 lists w = map (λ v. v.items) w.waiting.items
 
 abbrev pub list_of : List (List ℕ) → ℕ → List ℕ
 list_of rows m = slice_index_or rows m []
 
--- there is a place for each of so many files
+-- there is a place for each of `count` files
 pub record AreSized (count : ℕ) (w : Waits) : Type 0 where
   pub sound : length w.sound.items ≡ count
   pub passed : length w.passed.items ≡ count
@@ -30,11 +30,11 @@ pub record AreFresh (w : Waits) : Type 0 where
   pub sound : (n : ℕ) → IsMarked w.sound.items n → ⊥
   pub passed : (n : ℕ) → passed_of w.passed.items n ≡ 0
 
--- how many files are left: those that are not known to be sound, and those whose followers do not know
+-- how many files are left: those that are not known to be sound, and sound ones whose waiting files have not gone on
 abbrev pub left_in : List Bool → List ℕ → ℕ
 left_in marks todo = count_by not marks + length todo
 
--- one file more is known to be sound; as many are left
+-- one more file is known to be sound. As many files are left as before
 pub record IsMarkedMore (n : ℕ) (marks : List Bool) (todo : List ℕ) (after : List Bool) (more : List ℕ) : Type 0 where
   pub size : length after ≡ length marks
   pub here : IsMarked after n
@@ -48,8 +48,8 @@ pub record IsMarkedMore (n : ℕ) (marks : List Bool) (todo : List ℕ) (after :
 abbrev pub WaitsFor : List ℕ → List (List ℕ) → ℕ → List ℕ → Type 0
 WaitsFor passed rows n ns = (m : ℕ) × (slice_get ns (passed_of passed n) ≡ Some m) × Contains (list_of rows m) n
 
--- each file that is not barred is known to be sound, or stands aside, or waits; and none waits for one that is known to
--- be sound, unless that is still to be told
+-- each file that is not barred is known to be sound, or stands aside, or waits. None waits for a file that is known to
+-- be sound, unless that file is still in `todo`
 pub record AreWaitingBy (needs : Needs) (marks : List Bool) (passed : List ℕ) (rows : List (List ℕ)) (todo aside : List ℕ) : Type 0 where
   pub right : (n : ℕ) → IsMarked marks n → IsSound needs n
   pub before : (n j m : ℕ) (ns : List ℕ) → NeedsAll needs n ns → j < passed_of passed n → slice_get ns j ≡ Some m → IsMarked marks m

@@ -8,7 +8,7 @@ ghost use Rattle.star_sound.specs.Waiting.{AreFresh, AreSettled, AreSized, AreWa
 use std::alloc::{AllocError, Global};
 use std::mem;
 
-/// What can be said of a file before anything runs.
+/// The prospect of a file before anything runs: whether it can be used.
 #[derive(Clone, Copy, Debug, PartialEq, Eq)]
 pub enum Prospect {
     /// It cannot be used, whatever it needs.
@@ -19,20 +19,20 @@ pub enum Prospect {
     Lacks(usize),
 }
 
-/// What is known so far.
+/// The facts known so far.
 #[derive(Drop)]
 pub(crate) struct Waits {
     /// Whether a file is known to be sound.
     pub sound: Vec<bool>,
     /// How many of a file's first needs are known to be sound.
     pub passed: Vec<usize>,
-    /// For each file those that wait for it.
+    /// For each file, the files that wait for it.
     pub waiting: Vec<Vec<usize>>,
-    /// The sound files of which those that wait for them do not know yet.
+    /// The sound files whose waiting files have not gone on yet.
     pub todo: Vec<usize>,
 }
 
-/// What a file needs: none where it is barred.
+/// The needs of a file; `None` if it is barred.
 fn needs_of(needs: &[Option<Vec<usize>>], n: usize) -> Option<&[usize]>
     ensures { MatchOption result ((ns : List ℕ) → NeedsAll (rows_of needs.now) n ns → ⊥)
         (λ ns. NeedsAll (rows_of needs.now) n ns.now) }
@@ -43,7 +43,8 @@ fn needs_of(needs: &[Option<Vec<usize>>], n: usize) -> Option<&[usize]>
     }
 }
 
-/// The place of the first of these needs, from a place on, that is not known to be sound: their number, where all are.
+/// The place of the first of these needs, from a place on, that is not known to be sound. If all are, it is their
+/// number.
 fn first_from(sound: &[bool], its: &[usize], from: usize) -> usize
     requires { All (λ m. m < length sound.now) its.now }
     ensures passed { (i m : ℕ) → from ≤ i → i < result → slice_get its.now i ≡ Some m → IsMarked sound.now m }
@@ -57,7 +58,7 @@ fn first_from(sound: &[bool], its: &[usize], from: usize) -> usize
     its.len()
 }
 
-/// The numbers of so many files.
+/// The numbers of `count` files.
 fn all_files(alloc: Global, count: usize) -> Result<Vec<usize>, AllocError>
     ensures { IfOk result (λ v. (n : ℕ) → n < count → Contains v.items n) }
 {
@@ -69,7 +70,7 @@ fn all_files(alloc: Global, count: usize) -> Result<Vec<usize>, AllocError>
 }
 
 impl Waits {
-    /// Nothing is known of so many files.
+    /// The first state: nothing is known of `count` files.
     fn new(alloc: Global, count: usize) -> Result<Waits, AllocError>
         ensures sized { IfOk result (AreSized count) }
         ensures fresh { IfOk result AreFresh }
@@ -86,7 +87,7 @@ impl Waits {
         })
     }
 
-    /// A file is sound: those that wait for it will go on.
+    /// Records that a file is sound: the files that wait for it will go on.
     fn mark(&mut self, n: usize) -> Result<(), AllocError>
         requires { n < length self.old.sound.items }
         ensures passed { self.new.passed ≡ self.old.passed }
@@ -132,7 +133,7 @@ impl Waits {
         }
     }
 
-    /// These files go on, as far as they are not barred.
+    /// These files go on, except for the barred ones.
     fn release(&mut self, needs: &[Option<Vec<usize>>], files: Vec<usize>) -> Result<(), AllocError>
         requires within { AreWithin (rows_of needs.now) }
         requires sized { AreSized (length needs.now) self.old }
@@ -151,7 +152,7 @@ impl Waits {
         Ok(())
     }
 
-    /// The files that wait for one, which no longer do.
+    /// Takes the files that wait for this one. They no longer wait.
     fn take(&mut self, alloc: Global, m: usize) -> Vec<usize>
         requires { m < length self.old.waiting.items }
         ensures sound { self.new.sound ≡ self.old.sound }
@@ -163,7 +164,7 @@ impl Waits {
         mem::replace(&mut self.waiting[m], Vec::new(alloc))
     }
 
-    /// All that is to be known of files.
+    /// The last state: all is known of the files.
     fn settled(alloc: Global, needs: &[Option<Vec<usize>>]) -> Result<Waits, AllocError>
         requires { AreWithin (rows_of needs.now) }
         ensures { IfOk result (AreSettled (rows_of needs.now)) }
@@ -178,7 +179,7 @@ impl Waits {
         Ok(waits)
     }
 
-    /// What can be said of a file.
+    /// The prospect of a file.
     fn prospect(&self, needs: &[Option<Vec<usize>>], n: usize) -> Prospect
         requires settled { AreSettled (rows_of needs.now) self.now }
         requires file { n < length needs.now }
@@ -192,7 +193,8 @@ impl Waits {
     }
 }
 
-/// What can be said of each file, by what it needs: none where it is barred. It takes time in proportion to the needs.
+/// The prospect of each file, by its needs, which are `None` for a barred file. It takes time in proportion to the
+/// needs.
 pub fn prospects(alloc: Global, needs: &[Option<Vec<usize>>]) -> Result<Vec<Prospect>, AllocError>
     requires { AreWithin (rows_of needs.now) }
     ensures size { IfOk result (λ v. vec_len v ≡ length needs.now) }

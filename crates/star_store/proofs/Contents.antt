@@ -108,7 +108,7 @@ one a b (Some xs) (Some ys) = refl
 one a b (Some xs) None = sym (and_false (same_atom a b))
 one a b None p = sym (and_false (same_atom a b))
 
--- a cell has no content, that of a string, or that of a tuple
+-- a cell has no content, a string's or a tuple's
 shape : (P : Option (List Atom) → Type 0) → P None → ((t : List ℕ) → P (Some (atom.Text t ∷ []))) → ((n : ℕ) (e : Option (List Atom)) → P (join (Some (atom.Row n ∷ [])) e)) → (f : Value → Option (List Atom)) (c : Option Cell) → P (content_cell f c)
 shape P hn ht hr f (Some (cell.Text t)) = ht t
 shape P hn ht hr f (Some (cell.Tuple xs)) = hr (length xs) (content_each f xs)

@@ -1,4 +1,4 @@
--- Indexes with keys of other files: what they tell beside other stores.
+-- Indexes with keys of other files: the places that they give beside other stores.
 use Rattle.std.proofs.Common.{◌≡◌, ℕ, zero, suc, nat_eq, Bool, true, false, ◌&&◌, ◌||◌, if◌then◌else◌, List, [], ◌∷◌, ◌++◌, length, map, Option, Some, None, IfSome, slice_get, option_and_then, refl, ap, sym, subst, ◌∙◌}
 use Rattle.std.specs.List.{list_all, remove}
 use Rattle.std.specs.Option.{option_map}
@@ -101,7 +101,7 @@ abbrev has_key : (Value → Option Cell) → List Atom → List Atom → Bool
 has_key look atoms k = pointwise same_atom atoms k || is_far look atoms k
 
 module _ (s : Store) (look : Value → Option Cell) (h : Shows look s.home s.cells) where
-  -- what an index has for a key of the store's own is its content beside other stores too
+  -- the entry of an index for a key of the store's own is the key's content, beside other stores too
   own_content : (v : Value) (k : List Atom) → content (alone s) key_levels v ≡ Some k → content look key_levels v ≡ Some k
   own_content v k e = contents_stay (alone s) look key_levels v k (shown_keeps s look h) e
 
@@ -211,7 +211,7 @@ covered_at homes (k ∷ index) zero a h e =
     subst (λ (j : List Atom). is_within homes (far_home j) ≡ true) q (and_parts (is_within homes (far_home k)) (list_all (λ j. is_within homes (far_home j)) index) h).0
 covered_at homes (k ∷ index) (suc at) a h e = covered_at homes index at a (and_parts (is_within homes (far_home k)) (list_all (λ j. is_within homes (far_home j)) index) h).1 e
 
--- the content at a place of an index is that of the key there
+-- the content at a place of an index is the content of the key there
 content_at : (look : Value → Option Cell) (c : Option Cell) (index : List (List Atom)) (at : ℕ) (e : Value × Value) (a : List Atom) → IsKnown look c index → Covers [] index → slice_get (entries_of c) at ≡ Some e → slice_get index at ≡ Some a → content look key_levels e.0 ≡ Some a
 content_at look (Some (cell.Dict es)) index at e a k h p q =
     let right : map (λ d. key_entry k.of d.0) es ≡ map Some index = k.indexed in

@@ -1,4 +1,4 @@
--- Indexes: the places that they tell, and how they follow each write.
+-- Indexes: the places that they give, and how they follow each write.
 use Rattle.std.proofs.Common.{◌≡◌, Bor, ℕ, zero, suc, ◌+◌, ◌<◌, ◌≤◌, Bool, true, false, not, cond, nat_eq, nat_lt, List, [], ◌∷◌, ◌++◌, length, map, get_or, take, drop, set, if◌then◌else◌, Option, Some, None, slice_get, slice_set, position, option_and_then, IfSome, Result, Ok, Err, refl, ap, sym, subst, ◌∙◌, ◌⊎◌, ⊎_elim, inl, inr, max, length-append, ◌-◌, arith}
 use Rattle.std.specs.List.{remove, prefix_len}
 use Rattle.std.specs.Option.{option_copied, option_flatten, option_map}
@@ -85,8 +85,8 @@ look_far s shelf home at p far h =
     ∙ ap (λ (o : Option (Option Published)). option_map (λ (e : HeapCell). e.cell) (slice_get (published_cells o) at)) h
 
 -- an index of a store's own dictionary is one beside published stores
-own_indexed : (s : Store) (shelf : Shelf) (rows : Indexes) (v : Value) (home at : ℕ) (index : List (List Atom)) → v ≡ value.Ref home at → AreIndexed s rows → nat_eq home s.home ≡ true → index_at rows at ≡ Some index → IsKnown (look s shelf) (look s shelf v) index
-own_indexed s shelf rows v home at index e h own k = record {
+own_indexed : (s : Store) (shelf : Shelf) (indexes : Indexes) (v : Value) (home at : ℕ) (index : List (List Atom)) → v ≡ value.Ref home at → AreIndexed s indexes → nat_eq home s.home ≡ true → index_at indexes at ≡ Some index → IsKnown (look s shelf) (look s shelf v) index
+own_indexed s shelf indexes v home at index e h own k = record {
   of = s;
   shows = λ i. look_own s shelf s.home i (eq-eqb s.home s.home refl);
   indexed = subst (λ (c : Option Cell). IsIndexed s c index) (sym (ap (look s shelf) e ∙ look_own s shelf home at own)) (h.each at index k);
@@ -109,10 +109,10 @@ far_indexed s shelf v home at p index e far h k = record {
 }
 
 -- facts of an index of a dictionary of the store's own
-pub told_own : (own : ℕ) (cells : List HeapCell) (s : Store) (shelf : Shelf) (rows : Indexes) (v : Value) (home at : ℕ) (r : Option (Bor (List (List Atom)))) → record { home = own; cells = cells } ≡ s → AreIndexed (record { home = own; cells = cells }) rows → v ≡ value.Ref home at → home ≡ own → option_copied r ≡ index_at rows at → IfSome r (λ b. IsKnown (look s shelf) (look s shelf v) b.now)
-told_own own cells s shelf rows v home at None es h e q k = tt
-told_own own cells s shelf rows v home at (Some b) es h e q k =
-    subst (λ (t : Store). IsKnown (look t shelf) (look t shelf v) b.now) es (own_indexed (record { home = own; cells = cells }) shelf rows v home at b.now e h (eq-eqb home own q) (sym k))
+pub told_own : (own : ℕ) (cells : List HeapCell) (s : Store) (shelf : Shelf) (indexes : Indexes) (v : Value) (home at : ℕ) (r : Option (Bor (List (List Atom)))) → record { home = own; cells = cells } ≡ s → AreIndexed (record { home = own; cells = cells }) indexes → v ≡ value.Ref home at → home ≡ own → option_copied r ≡ index_at indexes at → IfSome r (λ b. IsKnown (look s shelf) (look s shelf v) b.now)
+told_own own cells s shelf indexes v home at None es h e q k = tt
+told_own own cells s shelf indexes v home at (Some b) es h e q k =
+    subst (λ (t : Store). IsKnown (look t shelf) (look t shelf v) b.now) es (own_indexed (record { home = own; cells = cells }) shelf indexes v home at b.now e h (eq-eqb home own q) (sym k))
 
 there : (p : Published) (o : Option (Option Published)) → Some p ≡ option_flatten o → o ≡ Some (Some p)
 there p (Some o) q = ap Some (sym q)
@@ -166,7 +166,7 @@ alone_tuples s t k _ xs h = cc
 alone_stays : (s t : Store) → Stays s t → KeepsKeys (alone s) (alone t)
 alone_stays s t k = record { texts = alone_texts s t k; tuples = alone_tuples s t k }
 
--- what an index has for a key stays
+-- the entry of an index for a key stays
 entry_stays : (s t : Store) → Stays s t → (v : Value) (a : List Atom) → key_entry s v ≡ Some a → key_entry t v ≡ Some a
 entry_stays s t k (value.Ref home at) a h =
     ap (λ (n : ℕ). if nat_eq home n then content (alone t) key_levels (value.Ref home at) else Some (atom.Far home at ∷ [])) k.home
@@ -192,19 +192,19 @@ stays_indexed : (s t : Store) (c : Option Cell) (index : List (List Atom)) → S
 stays_indexed s t (Some (cell.Dict es)) index k h = each_stays s t k es index h
 stays_indexed s t _ index k h = tt
 
-within_rows : (rows : Indexes) (at : ℕ) (index : List (List Atom)) → index_at rows at ≡ Some index → at < length rows
+within_rows : (indexes : Indexes) (at : ℕ) (index : List (List Atom)) → index_at indexes at ≡ Some index → at < length indexes
 within_rows [] at index h = cc
-within_rows (r ∷ rows) zero index h = omega arith
-within_rows (r ∷ rows) (suc at) index h = let k : at < length rows = within_rows rows at index h in omega arith
+within_rows (r ∷ indexes) zero index h = omega arith
+within_rows (r ∷ indexes) (suc at) index h = let k : at < length indexes = within_rows indexes at index h in omega arith
 
 -- if strings and tuples stay, and so do the dictionaries that may have an index, indexes stay right
-pub still_indexed : (s t : Store) (rows : Indexes) → AreIndexed s rows → Stays s t → ((at : ℕ) (es : List (Value × Value)) → at < length s.cells → cell_at t.cells at ≡ Some (cell.Dict es) → cell_at s.cells at ≡ Some (cell.Dict es)) → length s.cells ≤ length t.cells → AreIndexed t rows
-still_indexed s t rows h k d l = record { each = λ at index q. each at index q (cell_at t.cells at) refl; within = let w : length rows ≤ length s.cells = h.within in omega arith }
+pub still_indexed : (s t : Store) (indexes : Indexes) → AreIndexed s indexes → Stays s t → ((at : ℕ) (es : List (Value × Value)) → at < length s.cells → cell_at t.cells at ≡ Some (cell.Dict es) → cell_at s.cells at ≡ Some (cell.Dict es)) → length s.cells ≤ length t.cells → AreIndexed t indexes
+still_indexed s t indexes h k d l = record { each = λ at index q. each at index q (cell_at t.cells at) refl; within = let w : length indexes ≤ length s.cells = h.within in omega arith }
   where
-    each : (at : ℕ) (index : List (List Atom)) → index_at rows at ≡ Some index → (c : Option Cell) → cell_at t.cells at ≡ c → IsIndexed t c index
+    each : (at : ℕ) (index : List (List Atom)) → index_at indexes at ≡ Some index → (c : Option Cell) → cell_at t.cells at ≡ c → IsIndexed t c index
     each at index q (Some (cell.Dict es)) e =
-        let r : at < length rows = within_rows rows at index q in
-        let w : length rows ≤ length s.cells = h.within in
+        let r : at < length indexes = within_rows indexes at index q in
+        let w : length indexes ≤ length s.cells = h.within in
         stays_indexed s t (Some (cell.Dict es)) index k
         (subst (λ (c : Option Cell). IsIndexed s c index) (d at es (omega arith) e) (h.each at index q))
     each at index q (Some (cell.Text t)) e = tt
@@ -227,10 +227,10 @@ cell_within (e ∷ cells) zero c h = omega arith
 cell_within (e ∷ cells) (suc at) c h = let k : at < length cells = cell_within cells at c h in omega arith
 
 -- a new cell has an address without an index
-pub made_indexed : (home : ℕ) (cells : List HeapCell) (e : HeapCell) (rows : Indexes) → AreIndexed (record { home = home; cells = cells }) rows → AreIndexed (record { home = home; cells = cells ++ e ∷ [] }) rows
+pub made_indexed : (home : ℕ) (cells : List HeapCell) (e : HeapCell) (indexes : Indexes) → AreIndexed (record { home = home; cells = cells }) indexes → AreIndexed (record { home = home; cells = cells ++ e ∷ [] }) indexes
 unfolding store
-made_indexed home cells e rows h =
-    still_indexed (store home cells) (store home (cells ++ e ∷ [])) rows h
+made_indexed home cells e indexes h =
+    still_indexed (store home cells) (store home (cells ++ e ∷ [])) indexes h
     (record { home = refl; texts = λ at x q. kept at (cell.Text x) q; tuples = λ at xs q. kept at (cell.Tuple xs) q })
     (λ at es l q. sym (same at l) ∙ q)
     (omega (arith, length-append cells (e ∷ [])))
@@ -264,10 +264,10 @@ pub record CellStays (c d : Option Cell) : Type 0 where
 itself : (c : Option Cell) → CellStays c c
 itself c = record { texts = λ x h. h; tuples = λ xs h. h; dicts = λ es h. h }
 
-pub changed_indexed : (home : ℕ) (cells : List HeapCell) (f : HeapCell → HeapCell) (at : ℕ) (rows : Indexes) → ((e : HeapCell) → CellStays (Some e.cell) (Some (f e).cell)) → AreIndexed (record { home = home; cells = cells }) rows → AreIndexed (record { home = home; cells = changed_at f cells at }) rows
+pub changed_indexed : (home : ℕ) (cells : List HeapCell) (f : HeapCell → HeapCell) (at : ℕ) (indexes : Indexes) → ((e : HeapCell) → CellStays (Some e.cell) (Some (f e).cell)) → AreIndexed (record { home = home; cells = cells }) indexes → AreIndexed (record { home = home; cells = changed_at f cells at }) indexes
 unfolding store
-changed_indexed home cells f at rows one h =
-    still_indexed (store home cells) (store home (changed_at f cells at)) rows h
+changed_indexed home cells f at indexes one h =
+    still_indexed (store home cells) (store home (changed_at f cells at)) indexes h
     (record { home = refl; texts = λ i x q. (all i).texts x q; tuples = λ i xs q. (all i).tuples xs q })
     (λ i es l q. (all i).dicts es q)
     (omega (arith, length_changed f cells at))
@@ -405,11 +405,11 @@ module _ (c : Change) (place : Option ℕ) (x : Option Value) (d : Cell) where
   some_cell (Some b) w = (b, refl)
   some_cell None w = cc
 
-put_indexed : (home : ℕ) (cells : List HeapCell) (rows new : Indexes) (at : ℕ) (c : Change) (place : Option ℕ) (atoms : Option (List Atom)) (x : Option Value) (d : Cell) → AreIndexed (record { home = home; cells = cells }) rows → AreChanged at c place atoms rows new → IfSome atoms (λ a. option_and_then (key_entry (record { home = home; cells = cells })) (key_of c) ≡ Some a) → change_cell c place (cell_at cells at) ≡ Ok (x, d) → AreIndexed (record { home = home; cells = changed_at (λ e. record e { cell = d }) cells at }) new
+put_indexed : (home : ℕ) (cells : List HeapCell) (indexes new : Indexes) (at : ℕ) (c : Change) (place : Option ℕ) (atoms : Option (List Atom)) (x : Option Value) (d : Cell) → AreIndexed (record { home = home; cells = cells }) indexes → AreChanged at c place atoms indexes new → IfSome atoms (λ a. option_and_then (key_entry (record { home = home; cells = cells })) (key_of c) ≡ Some a) → change_cell c place (cell_at cells at) ≡ Ok (x, d) → AreIndexed (record { home = home; cells = changed_at (λ e. record e { cell = d }) cells at }) new
 unfolding store put_in
-put_indexed home cells rows new at c place atoms x d h k r w = record {
+put_indexed home cells indexes new at c place atoms x d h k r w = record {
   each = λ i index q. by i index q (nat_eq i at) refl;
-  within = let l : length rows ≤ length cells = h.within in omega (arith, k.as_long, length_changed (put_in d) cells at);
+  within = let l : length indexes ≤ length cells = h.within in omega (arith, k.as_long, length_changed (put_in d) cells at);
 }
   where
     s : Store
@@ -444,24 +444,24 @@ put_indexed home cells rows new at c place atoms x d h k r w = record {
         (h.each i index (sym (k.others i off) ∙ q)))
 
 -- a change of a cell among the others, and of its index among theirs
-pub written_indexed : (home : ℕ) (cells : List HeapCell) (rows new : Indexes) (at : ℕ) (c : Change) (place : Option ℕ) (atoms : Option (List Atom)) (x : Option Value) (later : List HeapCell) → AreIndexed (record { home = home; cells = cells }) rows → AreChanged at c place atoms rows new → IfSome atoms (λ a. option_and_then (key_entry (record { home = home; cells = cells })) (key_of c) ≡ Some a) → in_cells cells at (change_cell c place (cell_at cells at)) ≡ Ok (x, later) → AreIndexed (record { home = home; cells = later }) new
-written_indexed home cells rows new at c place atoms x later h k r w = by (change_cell c place (cell_at cells at)) refl w
+pub written_indexed : (home : ℕ) (cells : List HeapCell) (indexes new : Indexes) (at : ℕ) (c : Change) (place : Option ℕ) (atoms : Option (List Atom)) (x : Option Value) (later : List HeapCell) → AreIndexed (record { home = home; cells = cells }) indexes → AreChanged at c place atoms indexes new → IfSome atoms (λ a. option_and_then (key_entry (record { home = home; cells = cells })) (key_of c) ≡ Some a) → in_cells cells at (change_cell c place (cell_at cells at)) ≡ Ok (x, later) → AreIndexed (record { home = home; cells = later }) new
+written_indexed home cells indexes new at c place atoms x later h k r w = by (change_cell c place (cell_at cells at)) refl w
   where
     by : (o : Result (Option Value × Cell) StoreFault) → change_cell c place (cell_at cells at) ≡ o → in_cells cells at o ≡ Ok (x, later) → AreIndexed (record { home = home; cells = later }) new
     by (Err f) e p = cc
     by (Ok y) e p =
         let shape : changed_at (λ d. record d { cell = y.1 }) cells at ≡ later = second y.0 x (changed_at (λ d. record d { cell = y.1 }) cells at) later (cc) in
-        subst (λ (cs : List HeapCell). AreIndexed (record { home = home; cells = cs }) new) shape (put_indexed home cells rows new at c place atoms y.0 y.1 h k r e)
+        subst (λ (cs : List HeapCell). AreIndexed (record { home = home; cells = cs }) new) shape (put_indexed home cells indexes new at c place atoms y.0 y.1 h k r e)
 
 content_told : (s t : Store) (key : Option Value) (r : Option (List Atom)) → s ≡ t → IfSome r (λ a. option_and_then (key_entry t) key ≡ Some a) → IfSome r (λ a. option_and_then (key_entry s) key ≡ Some a)
 content_told s t key None e h = tt
 content_told s t key (Some a) e h = ap (λ (u : Store). option_and_then (key_entry u) key) e ∙ h
 
 -- the same, if the store and its indexes are given by their parts
-pub write_indexed : (own : ℕ) (cells mid later : List HeapCell) (rows middle new : Indexes) (s : Store) (at : ℕ) (c : Change) (place : Option ℕ) (r : Option (List Atom)) (x : Option Value) → record { home = own; cells = cells } ≡ s → AreIndexed (record { home = own; cells = cells }) rows → mid ≡ cells → middle ≡ rows → AreChanged at c place r middle new → IfSome r (λ a. option_and_then (key_entry s) (key_of c) ≡ Some a) → in_cells mid at (change_cell c place (cell_at mid at)) ≡ Ok (x, later) → AreIndexed (record { home = own; cells = later }) new
+pub write_indexed : (own : ℕ) (cells mid later : List HeapCell) (indexes middle new : Indexes) (s : Store) (at : ℕ) (c : Change) (place : Option ℕ) (r : Option (List Atom)) (x : Option Value) → record { home = own; cells = cells } ≡ s → AreIndexed (record { home = own; cells = cells }) indexes → mid ≡ cells → middle ≡ indexes → AreChanged at c place r middle new → IfSome r (λ a. option_and_then (key_entry s) (key_of c) ≡ Some a) → in_cells mid at (change_cell c place (cell_at mid at)) ≡ Ok (x, later) → AreIndexed (record { home = own; cells = later }) new
 unfolding store
-write_indexed own cells mid later rows middle new s at c place r x es h em er k t w =
-    written_indexed own cells rows new at c place r x later h
+write_indexed own cells mid later indexes middle new s at c place r x es h em er k t w =
+    written_indexed own cells indexes new at c place r x later h
     (subst (λ (q : Indexes). AreChanged at c place r q new) er k)
     (content_told (store own cells) s (key_of c) r es t)
     (subst (λ (q : List HeapCell). in_cells q at (change_cell c place (cell_at q at)) ≡ Ok (x, later)) em w)
@@ -486,68 +486,68 @@ place_either seen key (Some (cell.Frame f)) = refl
 place_either seen key (Some (cell.Bound m v)) = refl
 place_either seen key None = refl
 
--- the rows of indexes
+-- the indexes at their addresses
 
-pub row_grown : (rows : Indexes) (i : ℕ) → index_at (rows ++ None ∷ []) i ≡ index_at rows i
+pub row_grown : (indexes : Indexes) (i : ℕ) → index_at (indexes ++ None ∷ []) i ≡ index_at indexes i
 row_grown [] zero = refl
 row_grown [] (suc i) = refl
-row_grown (r ∷ rows) zero = refl
-row_grown (r ∷ rows) (suc i) = row_grown rows i
+row_grown (r ∷ indexes) zero = refl
+row_grown (r ∷ indexes) (suc i) = row_grown indexes i
 
-row_other : (rows : Indexes) (at i : ℕ) (r : Option (Box (List (List Atom)))) → (i ≡ at → ⊥) → index_at (set rows at r) i ≡ index_at rows i
+row_other : (indexes : Indexes) (at i : ℕ) (r : Option (Box (List (List Atom)))) → (i ≡ at → ⊥) → index_at (set indexes at r) i ≡ index_at indexes i
 row_other [] at i r n = refl
-row_other (q ∷ rows) zero zero r n = absurd (n refl)
-row_other (q ∷ rows) zero (suc i) r n = refl
-row_other (q ∷ rows) (suc at) zero r n = refl
-row_other (q ∷ rows) (suc at) (suc i) r n = row_other rows at i r (λ e. n (ap suc e))
+row_other (q ∷ indexes) zero zero r n = absurd (n refl)
+row_other (q ∷ indexes) zero (suc i) r n = refl
+row_other (q ∷ indexes) (suc at) zero r n = refl
+row_other (q ∷ indexes) (suc at) (suc i) r n = row_other indexes at i r (λ e. n (ap suc e))
 
-row_here : (rows : Indexes) (at : ℕ) (r : Option (Box (List (List Atom)))) → at < length rows → index_at (set rows at r) at ≡ option_map (λ b. b.value) r
+row_here : (indexes : Indexes) (at : ℕ) (r : Option (Box (List (List Atom)))) → at < length indexes → index_at (set indexes at r) at ≡ option_map (λ b. b.value) r
 row_here [] at r h = absurd (omega arith)
-row_here (q ∷ rows) zero r h = refl
-row_here (q ∷ rows) (suc at) r h = row_here rows at r (omega arith)
+row_here (q ∷ indexes) zero r h = refl
+row_here (q ∷ indexes) (suc at) r h = row_here indexes at r (omega arith)
 
 -- an index that is put at an address is found there, and the others where they were
-pub row_put : (rows : Indexes) (at : ℕ) (b : Box (List (List Atom))) → at < length rows → (i : ℕ) (found : List (List Atom)) → index_at (set rows at (Some b)) i ≡ Some found → (index_at rows i ≡ Some found) ⊎ ((i ≡ at) × (found ≡ b.value))
-row_put rows at b l i found h = by (nat_eq i at) refl
+pub row_put : (indexes : Indexes) (at : ℕ) (b : Box (List (List Atom))) → at < length indexes → (i : ℕ) (found : List (List Atom)) → index_at (set indexes at (Some b)) i ≡ Some found → (index_at indexes i ≡ Some found) ⊎ ((i ≡ at) × (found ≡ b.value))
+row_put indexes at b l i found h = by (nat_eq i at) refl
   where
-    by : (q : Bool) → nat_eq i at ≡ q → (index_at rows i ≡ Some found) ⊎ ((i ≡ at) × (found ≡ b.value))
+    by : (q : Bool) → nat_eq i at ≡ q → (index_at indexes i ≡ Some found) ⊎ ((i ≡ at) × (found ≡ b.value))
     by true e =
         let here : i ≡ at = eqb-true i at e in
-        let at_it : index_at (set rows at (Some b)) at ≡ Some found = subst (λ (j : ℕ). index_at (set rows at (Some b)) j ≡ Some found) here h in
-        let same : Some b.value ≡ Some found = sym (row_here rows at (Some b) l) ∙ at_it in
+        let at_it : index_at (set indexes at (Some b)) at ≡ Some found = subst (λ (j : ℕ). index_at (set indexes at (Some b)) j ≡ Some found) here h in
+        let same : Some b.value ≡ Some found = sym (row_here indexes at (Some b) l) ∙ at_it in
         inr (here, cc)
-    by false e = inl (sym (row_other rows at i (Some b) (eqb-false i at e)) ∙ h)
+    by false e = inl (sym (row_other indexes at i (Some b) (eqb-false i at e)) ∙ h)
 
 -- a right index at an address keeps all of them right
-pub put_right : (s : Store) (rows new : Indexes) (at : ℕ) (index : List (List Atom)) → AreIndexed s rows → ((i : ℕ) (found : List (List Atom)) → index_at new i ≡ Some found → (index_at rows i ≡ Some found) ⊎ ((i ≡ at) × (found ≡ index))) → length new ≤ max (length rows) (at + 1) → at + 1 ≤ length s.cells → IsIndexed s (cell_at s.cells at) index → AreIndexed s new
-put_right s rows new at index h k l m q = record {
+pub put_right : (s : Store) (indexes new : Indexes) (at : ℕ) (index : List (List Atom)) → AreIndexed s indexes → ((i : ℕ) (found : List (List Atom)) → index_at new i ≡ Some found → (index_at indexes i ≡ Some found) ⊎ ((i ≡ at) × (found ≡ index))) → length new ≤ max (length indexes) (at + 1) → at + 1 ≤ length s.cells → IsIndexed s (cell_at s.cells at) index → AreIndexed s new
+put_right s indexes new at index h k l m q = record {
   each = λ i found e. ⊎_elim (λ p. h.each i found p) (λ p. subst (λ (j : ℕ). IsIndexed s (cell_at s.cells j) found) (sym p.0) (subst (IsIndexed s (cell_at s.cells at)) (sym p.1) q)) (k i found e);
-  within = let w : length rows ≤ length s.cells = h.within in omega arith;
+  within = let w : length indexes ≤ length s.cells = h.within in omega arith;
 }
 
 -- a row that is changed as its dictionary was
-pub row_changed : (rows : Indexes) (at : ℕ) (c : Change) (place : Option ℕ) (atoms : Option (List Atom)) (e r : Option (Box (List (List Atom)))) → at < length rows → IfSome r (λ index. option_and_then (λ b. index_after c place atoms b.value) (get_or rows at e) ≡ Some index.value) → AreChanged at c place atoms rows (set rows at r)
-row_changed rows at c place atoms e r l h = record {
-  others = λ i n. row_other rows at i r n;
-  here = λ index q. by r (get_or rows at e) h index (sym (row_here rows at r l) ∙ q) (old rows at e l);
-  as_long = length-set rows at r;
+pub row_changed : (indexes : Indexes) (at : ℕ) (c : Change) (place : Option ℕ) (atoms : Option (List Atom)) (e r : Option (Box (List (List Atom)))) → at < length indexes → IfSome r (λ index. option_and_then (λ b. index_after c place atoms b.value) (get_or indexes at e) ≡ Some index.value) → AreChanged at c place atoms indexes (set indexes at r)
+row_changed indexes at c place atoms e r l h = record {
+  others = λ i n. row_other indexes at i r n;
+  here = λ index q. by r (get_or indexes at e) h index (sym (row_here indexes at r l) ∙ q) (old indexes at e l);
+  as_long = length-set indexes at r;
 }
   where
-    old : (rows : Indexes) (at : ℕ) (e : Option (Box (List (List Atom)))) → at < length rows → index_at rows at ≡ option_map (λ b. b.value) (get_or rows at e)
+    old : (indexes : Indexes) (at : ℕ) (e : Option (Box (List (List Atom)))) → at < length indexes → index_at indexes at ≡ option_map (λ b. b.value) (get_or indexes at e)
     old [] at e l = absurd (omega arith)
-    old (q ∷ rows) zero e l = refl
-    old (q ∷ rows) (suc at) e l = old rows at e (omega arith)
+    old (q ∷ indexes) zero e l = refl
+    old (q ∷ indexes) (suc at) e l = old indexes at e (omega arith)
 
-    by : (r e : Option (Box (List (List Atom)))) → IfSome r (λ index. option_and_then (λ b. index_after c place atoms b.value) e ≡ Some index.value) → (index : List (List Atom)) → option_map (λ b. b.value) r ≡ Some index → index_at rows at ≡ option_map (λ b. b.value) e → (before : List (List Atom)) × (index_at rows at ≡ Some before) × (index_after c place atoms before ≡ Some index)
+    by : (r e : Option (Box (List (List Atom)))) → IfSome r (λ index. option_and_then (λ b. index_after c place atoms b.value) e ≡ Some index.value) → (index : List (List Atom)) → option_map (λ b. b.value) r ≡ Some index → index_at indexes at ≡ option_map (λ b. b.value) e → (before : List (List Atom)) × (index_at indexes at ≡ Some before) × (index_after c place atoms before ≡ Some index)
     by (Some b) (Some a) h index q o = (a.value, o, h ∙ q)
     by (Some b) None h index q o = cc
     by None e h index q o = cc
 
 -- without such a row, nothing changes
-pub row_unchanged : (rows : Indexes) (at : ℕ) (c : Change) (place : Option ℕ) (atoms : Option (List Atom)) → length rows ≤ at → AreChanged at c place atoms rows rows
-row_unchanged rows at c place atoms l = record {
+pub row_unchanged : (indexes : Indexes) (at : ℕ) (c : Change) (place : Option ℕ) (atoms : Option (List Atom)) → length indexes ≤ at → AreChanged at c place atoms indexes indexes
+row_unchanged indexes at c place atoms l = record {
   others = λ i n. refl;
-  here = λ index q. absurd (let k : at < length rows = within_rows rows at index q in omega arith);
+  here = λ index q. absurd (let k : at < length indexes = within_rows indexes at index q in omega arith);
   as_long = refl;
 }
 

@@ -61,7 +61,7 @@ among_is look atoms home row r (atom.Far h a ∷ []) = among_far home row h a (s
     by true q = ap (λ (n : ℕ). same_content (Some atoms) (content look key_levels (value.Ref n a))) (eqb-true home h q)
     by false q = refl
 
--- the first place of a row's keys is that of the file's keys of the content
+-- the first place of a row's keys is the first place of the file's keys with the content
 pub row_place : (look : Value → Option Cell) (atoms : List Atom) (home : ℕ) (row : List ℕ) (index : List (List Atom)) → IsRow look atoms home row → position (is_among home row) index ≡ position (is_from look atoms home) index
 row_place look atoms home row index r = position_same (is_among home row) (is_from look atoms home) index (among_is look atoms home row r)
 

@@ -26,7 +26,7 @@ row_apart : (x : Scalar) (n : ℕ) (o : Option (List Atom)) → same_content (So
 row_apart x n (Some ys) = false_and (same_atom (scalar_atom x) (atom.Row n)) (pointwise same_atom [] ys) (no_row x n)
 row_apart x n None = refl
 
--- a scalar's content and that of a cell
+-- the contents of a scalar and of a cell
 in_cell : (f : Value → Option (List Atom)) (x : Scalar) (c : Option Cell) → same_content (Some (scalar_atom x ∷ [])) (content_cell f c) ≡ is_only x (atom_in c)
 in_cell f x (Some (cell.Text t)) = and_true (same_atom (scalar_atom x) (atom.Text t))
 in_cell f x (Some (cell.Tuple xs)) = row_apart x (length xs) (content_each f xs)

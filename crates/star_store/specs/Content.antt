@@ -57,11 +57,11 @@ unfoldable pub content : (Value → Option Cell) → ℕ → Value → Option (L
 content look zero v = None
 content look (suc n) v = content_value look (content look n) v
 
--- atoms, and after them those of a content, if it has any
+-- atoms, and after them the atoms of a content; nothing without a content
 abbrev pub after : List Atom → Option (List Atom) → Option (List Atom)
 after xs o = option_map (λ ks. xs ++ ks) o
 
--- atoms are others with those of a content after them just if the content is there, as an answer says
+-- the new atoms are the old ones, and after them the atoms of a content; an answer says whether the content is there
 abbrev pub IsPut : List Atom → Option (List Atom) → List Atom → Bool → Type 0
 IsPut old o new whole = after old o ≡ (if whole then Some new else None)
 

@@ -62,7 +62,7 @@ same_cells look f one (Some (cell.Func g)) (Some (cell.Func h)) = answer one
 same_cells look f one (Some (cell.Bound m x)) (Some (cell.Bound n y)) = answer one
 same_cells look f one _ _ = answer false
 
--- two values; those of different types are unequal
+-- two values; values of different types are unequal
 abbrev pub same_values : (Value → Option Cell) → (Value → Value → Spend Bool) → Value → Value → Spend Bool
 same_values look f value.NoneValue value.NoneValue = answer true
 same_values look f (value.Bool b) (value.Bool c) = answer (beq b c)

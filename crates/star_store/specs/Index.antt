@@ -22,8 +22,8 @@ use Rattle.star_store.specs.Write.{cell_at}
 abbrev pub alone : Store → Value → Option Cell
 alone s = look s []
 
--- What an index has for a key: for a value that another file made the value's number, else the key's content, if it has
--- one where no published store is reached.
+-- The entry of an index for a key. For a value that another file made it is the value's number, else the key's content,
+-- if it has one where no published store is reached.
 abbrev pub key_entry : Store → Value → Option (List Atom)
 key_entry s (value.Ref home at) =
     if nat_eq home s.home then content (alone s) key_levels (value.Ref home at) else Some (atom.Far home at ∷ [])
@@ -41,7 +41,7 @@ IsIndexed s _ index = Unit {0}
 abbrev pub place_by : List Atom → List (List Atom) → Option ℕ
 place_by atoms index = position (pointwise same_atom atoms) index
 
--- a place is the one of a key in a dictionary
+-- a place is the place of a key in a dictionary
 abbrev pub Places : (Value → Option Cell) → Value → Option Cell → Option ℕ → Type 0
 Places look key c place = (es : List (Value × Value)) → c ≡ Some (cell.Dict es) → place ≡ place_of look key es
 
@@ -62,7 +62,7 @@ place_of_key look key index = option_and_then (λ atoms. place_told look atoms i
 abbrev pub Shows : (Value → Option Cell) → ℕ → List HeapCell → Type 0
 Shows look home cells = (at : ℕ) → look (value.Ref home at) ≡ cell_at cells at
 
--- an index is one of a dictionary, beside other stores
+-- an index is the index of a dictionary, beside other stores
 pub record IsKnown (look : Value → Option Cell) (c : Option Cell) (index : List (List Atom)) : Type 0 where
   pub of : Store
   pub shows : Shows look of.home of.cells
@@ -87,18 +87,18 @@ Indexes = List (Option (Box (List (List Atom))))
 
 -- the index at an address
 abbrev pub index_at : Indexes → ℕ → Option (List (List Atom))
-index_at rows at = option_map (λ b. b.value) (option_flatten (slice_get rows at))
+index_at indexes at = option_map (λ b. b.value) (option_flatten (slice_get indexes at))
 
 -- each index was there before, or it is the one that was put at an address
 abbrev pub IsPutAt : ℕ → List (List Atom) → Indexes → Indexes → Type 0
 IsPutAt at index old new = (i : ℕ) (found : List (List Atom)) → index_at new i ≡ Some found
     → (index_at old i ≡ Some found) ⊎ ((i ≡ at) × (found ≡ index))
 
--- each index of a store is one of the dictionary at its address
-pub record AreIndexed (s : Store) (rows : Indexes) : Type 0 where
-  pub each : (at : ℕ) (index : List (List Atom)) → index_at rows at ≡ Some index
+-- each index of a store is an index of the dictionary at its address
+pub record AreIndexed (s : Store) (indexes : Indexes) : Type 0 where
+  pub each : (at : ℕ) (index : List (List Atom)) → index_at indexes at ≡ Some index
       → IsIndexed s (cell_at s.cells at) index
-  pub within : length rows ≤ length s.cells
+  pub within : length indexes ≤ length s.cells
 
 -- the entries of a dictionary, and none of another cell
 abbrev pub entries_of : Option Cell → List (Value × Value)
@@ -112,7 +112,7 @@ index_after (change.Put k v) (Some i) atoms index = Some index
 index_after (change.Delete k) (Some i) atoms index = Some (remove index i)
 index_after _ place atoms index = None
 
--- the other indexes stay, and the one at an address is that after the change, or there is none any more
+-- the other indexes stay, and the index at an address is the one after the change, or is gone
 pub record AreChanged (at : ℕ) (c : Change) (place : Option ℕ) (atoms : Option (List Atom)) (old new : Indexes) : Type
     0 where
   pub others : (i : ℕ) → (i ≡ at → ⊥) → index_at new i ≡ index_at old i
@@ -124,11 +124,11 @@ pub record AreChanged (at : ℕ) (c : Change) (place : Option ℕ) (atoms : Opti
 abbrev pub beside : (Value → Option Cell) → Option Cell → Value × Value → Value × Option Value
 beside look other e = (e.1, value_of look e.0 (entries_of other))
 
--- those of the entry of a dictionary at a place
+-- these two values for the entry of a dictionary at a place
 abbrev pub beside_at : (Value → Option Cell) → Value → ℕ → Value → Option (Value × Option Value)
 beside_at look dict at other = option_map (beside look (look other)) (slice_get (entries_of (look dict)) at)
 
--- a place is that of another dictionary for the key of the entry at a place
+-- a place in another dictionary is the place of the key that the entry at a place has
 abbrev pub PlacesAt : (Value → Option Cell) → Option Cell → ℕ → Option Cell → Option ℕ → Type 0
 PlacesAt look c at other place =
     (e : Value × Value) → slice_get (entries_of c) at ≡ Some e → Places look e.0 other place

@@ -53,7 +53,7 @@ built_in_name built_in.Tuple = codes "tuple"
 built_in_name built_in.Type = codes "type"
 built_in_name built_in.Zip = codes "zip"
 
--- the names of a method: that of the type of its receiver, and its own
+-- the names of a method: the name of its receiver's type, and its own
 abbrev pub method_names : Method → List ℕ × List ℕ
 method_names method.ListAppend = (codes "list", codes "append")
 method_names method.ListClear = (codes "list", codes "clear")

@@ -34,7 +34,7 @@ scalar_atom (scalar.Bool b) = atom.Bool b
 scalar_atom (scalar.Int n) = atom.Int n
 scalar_atom (scalar.Text t) = atom.Text t.now
 
--- whether a content is that of a scalar
+-- whether a content is a scalar's
 abbrev pub is_of : Scalar → List Atom → Bool
 is_of x atoms = pointwise same_atom (scalar_atom x ∷ []) atoms
 

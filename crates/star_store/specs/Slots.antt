@@ -22,7 +22,7 @@ abbrev pub under_at : Option (Box DefaultLayer) → ℕ → Option Value
 under_at None at = None
 under_at (Some under) at = default_at (arc_slice_items under.value.ranks) under.value.defaults at
 
--- the value of a slot: that of the row, or else that of the map, or else the default under it
+-- the value of a slot: from the row, or else from the map, or else the default under it
 abbrev pub slot_at : List (Option Value) → Option (Box (BTreeMap ℕ Value)) → Option (Box DefaultLayer) → ℕ → Option Value
 slot_at near far under at =
     option_or (option_flatten (slice_get near at)) (option_or (far_at far at) (under_at under at))

@@ -1,4 +1,4 @@
--- The stores: the cells of the running module, those of the published modules, and the cell that a value leads to.
+-- The stores: the cells of the running module and of the published modules, and the cell that a value leads to.
 use Rattle.std.specs.Prelude.{ℕ, zero, suc, ◌+◌, ◌-◌, nat_eq, Bool, true, false, List, [], ◌∷◌, ◌++◌, Option, Some, None, length, replicate, slice_get, slice_set, if◌then◌else◌}
 use Rattle.std.specs.Option.{option_map, option_flatten}
 use Rattle.std.specs.Cmp.Lexicographic.{pointwise, slice_cmp}
@@ -30,7 +30,7 @@ published_cells None = []
 published_cells (Some None) = []
 published_cells (Some (Some p)) = p.cells
 
--- the cells of a file: the running module's own, or those of a published one
+-- the cells of a file: the running module's own, or a published module's
 abbrev pub cells_of : Store → Shelf → ℕ → List HeapCell
 cells_of s shelf home = if nat_eq home s.home then s.cells else published_cells (slice_get shelf home)
 

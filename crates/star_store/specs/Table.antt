@@ -1,4 +1,4 @@
--- Tables of published stores: at which addresses a store has the keys of a content.
+-- Tables of published stores: the addresses where a store has the keys of a content.
 use Rattle.std.specs.Prelude.{◌≡◌, ℕ, nat_eq, nat_lt, Bool, true, false, ◌&&◌, ◌||◌, List, [], ◌∷◌, Option, Some, None, slice_get, min}
 use Rattle.std.specs.List.{list_all, list_any}
 use Rattle.std.specs.Cmp.Lexicographic.{pointwise}
@@ -13,17 +13,17 @@ use Rattle.star_store.specs.Content.{content, same_atom, same_content}
 use Rattle.star_store.specs.Index.{Shows, place_by}
 use Rattle.star_store.specs.Key.{key_levels}
 
--- a value is none that another file made
+-- whether no other file made a value
 abbrev pub is_home : ℕ → Value → Bool
 is_home home (value.Ref h at) = nat_eq h home
 is_home home _ = true
 
--- a cell is no tuple with a value that another file made
+-- whether a cell is not a tuple with a value that another file made
 abbrev pub is_closed_cell : ℕ → Cell → Bool
 is_closed_cell home (cell.Tuple xs) = list_all (is_home home) xs
 is_closed_cell home _ = true
 
--- no tuple of a store has a value that another file made
+-- whether no tuple of a store has a value that another file made
 abbrev pub is_closed : ℕ → List HeapCell → Bool
 is_closed home cells = list_all (λ e. is_closed_cell home e.cell) cells
 
@@ -86,6 +86,6 @@ is_from look atoms home (atom.Far h at ∷ []) =
     nat_eq home h && same_content (Some atoms) (content look key_levels (value.Ref h at))
 is_from look atoms home _ = false
 
--- the same of several files
+-- the same for several files
 abbrev pub is_from_any : (Value → Option Cell) → List Atom → List ℕ → List Atom → Bool
 is_from_any look atoms homes k = list_any (λ home. is_from look atoms home k) homes

@@ -197,7 +197,7 @@ Says o (Ok x) out left = o ≡ Enough out left
 Says o (Err Memory) out left = Unit {0}
 Says o (Err f) out left = o ≡ Lacks f left
 
--- The same of a function that answers the text.
+-- The same for a function that answers the text.
 abbrev pub Tells : Spent (List ℕ) → Result (List ℕ) StoreFault → ℕ → Type 0
 Tells o (Ok t) left = o ≡ Enough t left
 Tells o (Err Memory) left = Unit {0}

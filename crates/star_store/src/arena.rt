@@ -8,8 +8,8 @@ ghost use Rattle.std.specs.Option.{option_copied, option_flatten};
 ghost use Rattle.star_store.specs.Store.{bound, bound_cell, changed_at, closed, closed_in, counted_at, global_of, is_container, is_taken, iterations_in, iterations_of, look, made, next_value, opened, opened_in, published_cells, put_up, slot_value, Shelf};
 ghost use Rattle.star_store.specs.declared.fault.StoreFault.TheVariants.{Memory};
 
+mod indexes;
 mod places;
-mod rows;
 mod tables;
 pub mod write;
 
@@ -29,7 +29,7 @@ pub struct Arena {
     alloc: Global,
     home: u32,
     cells: Vec<HeapCell>,
-    rows: Vec<Option<Box<KeyIndex>>>,
+    indexes: Vec<Option<Box<KeyIndex>>>,
     state: SeededState,
     /// How many entries may still be gone through to make indexes.
     allowed: usize,
@@ -43,7 +43,7 @@ impl Model for Arena {
 
     ghost view = { λ a. record { home = a.home; cells = a.cells.items } };
 
-    ghost invariant = { λ a. AreIndexed (record { home = a.home; cells = a.cells.items }) a.rows.items };
+    ghost invariant = { λ a. AreIndexed (record { home = a.home; cells = a.cells.items }) a.indexes.items };
 }
 
 /// The store of a published module: its cells and its globals, which nothing changes any more. The values of a module
@@ -52,7 +52,7 @@ impl Model for Arena {
 pub struct Frozen {
     home: u32,
     cells: Vec<HeapCell>,
-    rows: Vec<Option<Box<KeyIndex>>>,
+    indexes: Vec<Option<Box<KeyIndex>>>,
     table: Option<TableSlot>,
     globals: Vec<(String, Value)>,
     is_ordered: bool,
@@ -69,7 +69,7 @@ impl Model for Frozen {
 
     ghost invariant = { λ f. record {
       ordered : f.is_ordered ≡ true → ascend (map (λ g. string_bytes g.0) f.globals.items);
-      indexed : AreIndexed (record { home = f.home; cells = f.cells.items }) f.rows.items;
+      indexed : AreIndexed (record { home = f.home; cells = f.cells.items }) f.indexes.items;
       table : IfSome f.table (λ slot. slot ≡ f.cells.items);
     } };
 }
@@ -147,7 +147,7 @@ impl Arena {
             alloc,
             home,
             cells: Vec::new(alloc),
-            rows: Vec::new(alloc),
+            indexes: Vec::new(alloc),
             state: SeededState::new(seed),
             allowed: 0,
         }
@@ -201,8 +201,8 @@ impl Arena {
         }
     }
 
-    /// The value of a slot of a frame of this arena, if the slot has room in the frame's row. None says nothing: the
-    /// value may be found by `read`.
+    /// The value of a slot of a frame of this arena, if the slot has room in the frame's row. `None` does not mean that
+    /// the slot has no value: `read` may find one.
     #[inline(always)]
     pub fn near(&self, frame: Value, slot: usize) -> Option<Value>
         ensures { IfSome result (λ v. (shelf : Shelf) → slot_value (look self.now shelf frame) slot ≡ Some v) }
@@ -309,19 +309,19 @@ pub fn freeze(arena: Arena, globals: Vec<(String, Value)>) -> Frozen
         alloc: _,
         home,
         mut cells,
-        mut rows,
+        mut indexes,
         state: _,
         allowed: _,
     } = arena;
     // Nothing is added any more.
     cells.shrink_to_fit();
-    rows.shrink_to_fit();
+    indexes.shrink_to_fit();
     let table = TableSlot::new(&cells);
     let is_ordered = ascend(&globals);
     Frozen {
         home,
         cells,
-        rows,
+        indexes,
         table,
         globals,
         is_ordered,

@@ -49,7 +49,7 @@ pub fn floor_div(x: i64, y: i64) -> Result<i64, StoreFault>
     narrow(quotient_turned(x, y))
 }
 
-/// The quotient by a divisor below 0, rounded down: that of both with their signs turned.
+/// The quotient by a divisor below 0, rounded down: the quotient of both ints with their signs turned.
 #[tactic(auto, using(crate::proofs::Ints::floored_down))]
 fn quotient_turned(x: i64, y: i64) -> i128
     requires { y <ℤ pos 0 }

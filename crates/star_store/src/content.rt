@@ -21,7 +21,7 @@ ghost use Rattle.star_store.specs.declared.content.Atom.TheVariants as atom;
 
 use crate::arena::{Arena, Homes};
 use crate::key::KEY_LEVELS;
-use crate::values::{Cell, Value, Values};
+use crate::values::{Cell, Value};
 use indexmap::Equivalent;
 use star_text::Text;
 use std::alloc::{AllocError, Global};
@@ -74,7 +74,7 @@ impl KeyContent {
         }
     }
 
-    /// What an index has for a key that another file made.
+    /// The entry of an index for a key that another file made.
     pub(crate) fn far(home: u32, at: u32) -> KeyContent
         ensures { result ≡ atom.Far home at ∷ [] }
     {
@@ -207,7 +207,7 @@ pub(crate) fn scalar_key<'a>(
     Some(ScalarKey { scalar })
 }
 
-/// Whether a value is the key that a scalar is.
+/// Whether a value is the same key as a scalar.
 #[inline(always)]
 pub(crate) fn is_scalar<'a>(
     arena: &'a Arena,
@@ -251,8 +251,8 @@ pub fn content(
     Ok(Some(KeyContent { atoms }))
 }
 
-/// Adds the content of a key, and says whether there is one: that of a tuple is how many items there are, and then
-/// their contents.
+/// Adds the content of a key, and says whether there is one. The content of a tuple is the number of its items, and
+/// then their contents.
 #[cycle(put_content)]
 #[tactic(auto, using(crate::proofs::Contents::content_at, crate::proofs::Contents::content_at_none, crate::proofs::Contents::row_added))]
 fn put_content<'a>(
@@ -302,13 +302,13 @@ fn put_atom(
     Ok(true)
 }
 
-/// Two values are the same key just if both have a content and it is the same one. (`docs/LANGUAGE.md`, "Equality,
+/// Two values are the same key exactly if both have a content and it is the same one. (`docs/LANGUAGE.md`, "Equality,
 /// order, keys and texts".)
 pub fn same_keys_have_one_content()
     ensures { SameKeysHaveOneContent }
 {}
 
-/// A value is a key just if it has a content.
+/// A value is a key exactly if it has a content.
 pub fn keys_have_contents()
     ensures { KeysHaveContents }
 {}

@@ -180,7 +180,7 @@ fn place_of_scalar<'a>(
     entries.as_slice().iter().position(same)
 }
 
-/// The place of the entry with this key, be it a tuple.
+/// The place of the entry with this key, which may be a tuple.
 fn place_of_any(arena: &Arena, homes: &Homes, key: Value, entries: &Entries) -> Option<usize>
     ensures { result ≡ place_of (look arena.now homes.now) key entries.now }
 {

@@ -1,8 +1,8 @@
-//! The index of a dictionary some of whose keys other files made.
+//! The index of a dictionary that may have keys of other files.
 //!
-//! What a value of another file leads to is known only beside its store, and each look-up may come with other stores.
-//! So the index has such a key under the number of its value, and a look-up asks the table of that file's store which
-//! values have the content that is sought (`table.rt`).
+//! The cell of another file's value is known only beside its store, and each look-up may come with other stores. So the
+//! index has such a key under the number of its value. A look-up asks the table of that file's store which values have
+//! the content that it looks for (`table.rt`).
 
 ghost use Rattle.std.specs.Prelude.{◌≡◌, ◌++◌, ◌∷◌, [], List, Some, true, if◌then◌else◌, IfOk};
 ghost use Rattle.std.specs.Bool.{OnTrue};
@@ -16,13 +16,13 @@ use crate::seed::SeededState;
 use std::alloc::{AllocError, Global};
 use std::marker::Model;
 
-/// If keys of other files are among fewer, a walk is as fast as a question to a table.
+/// If an index with keys of other files has fewer keys than this, a walk is as fast as a question to a table.
 pub(crate) const FEW_FAR: usize = 24;
 
 /// An index has keys of at most this many other files: each look-up asks all of them.
 const MOST_HOMES: usize = 4;
 
-/// An index of a dictionary: the contents of its keys, or the numbers of those that other files made, in order.
+/// An index of a dictionary: the contents of its keys, or the numbers of the keys that other files made, in order.
 #[derive(Drop)]
 pub struct KeyIndex {
     keys: Index,
@@ -74,8 +74,8 @@ impl KeyIndex {
         self.homes.is_empty()
     }
 
-    /// Adds a key after all others, and returns whether it was added. If it was there already, is of one file too many,
-    /// or an allocation failed, nothing has changed.
+    /// Adds a key after all others, and returns whether it was added. If it was there already, its file is one too
+    /// many, or an allocation failed, then nothing has changed.
     pub fn push(&mut self, content: KeyContent) -> bool
         ensures { self.new ≡ (if result then self.old ++ content ∷ [] else self.old) }
     {

@@ -7,7 +7,7 @@
 //!   run ends. `freeze` turns it into a `Frozen`, which nothing changes any more. `Homes` has the frozen stores that a
 //!   module can reach, by file number.
 //! - A visit is a step of a walk over values. `key` is such a walk, the others are in `star_visit`: each visit pays a
-//!   step from a `Budget` and opens a level, so values that contain themselves are no danger.
+//!   step from a `Budget` and opens a level, so values that contain themselves do no harm.
 //! - A dictionary is a list of `Entries` in the order of insertion. If it is large, the arena has a `KeyIndex` for it:
 //!   from the content of a key (the hashable value, with no references left) to the place of its entry. A key that
 //!   another file made is there under the number of its value, and the `Table` of that file's store says which values
@@ -20,10 +20,9 @@
 //!
 //! Invariant of `Arena` and `Frozen`: an index has just the keys of its dictionary. Nothing else is needed, since every
 //! function has an answer for a reference that leads nowhere. The promises: a write is refused if another module made
-//! the value (`Frozen`) or an iteration is open on it (`Iterating`), in an order that `Arena::write` states; freezing
-//! changes no value; keys are exact in answer, steps and levels. The definitions are in
-//! `specs/`: `Store` and `Write`, then a file for each walk. See `docs/LANGUAGE.md`, "Values" and "Equality, order,
-//! keys and texts".
+//! the value (`Frozen`) or an iteration is open on it (`Iterating`), in an order that `Arena::write` states. Freezing
+//! changes no value. Keys are exact in answer, steps and levels. The definitions are in `specs/`: `Store` and `Write`,
+//! then a file for each walk. See `docs/LANGUAGE.md`, "Values" and "Equality, order, keys and texts".
 #![tactic(auto)]
 
 pub mod arena;

@@ -10,10 +10,10 @@ ghost use Rattle.std.specs.List.{insert, remove};
 use std::alloc::AllocError;
 use std::marker::Model;
 
-/// Among fewer items all are moved as fast.
-const FEW: usize = 16;
+/// With fewer items than this, moving all of them is as fast.
+const GAP_FROM: usize = 16;
 
-/// Items in a vector, of which the first few are gone: their places are free.
+/// Items in a vector. The first few of them are gone, and their places are free.
 #[derive(Drop)]
 pub struct FrontGapVec<T> {
     items: Vec<T>,
@@ -80,7 +80,7 @@ impl<T: Copy> FrontGapVec<T> {
         ensures inserted { OnOk result (self.new ≡ insert self.old at item) }
         ensures refused { OnErr result (self.new ≡ self.old) }
     {
-        if at > 0 || (self.gone == 0 && self.items.len() < FEW) {
+        if at > 0 || (self.gone == 0 && self.items.len() < GAP_FROM) {
             self.items.insert(self.gone + at, item)?;
             return Ok(());
         }
@@ -100,7 +100,7 @@ impl<T: Copy> FrontGapVec<T> {
         requires { at < length self.old }
         ensures { self.new ≡ remove self.old at }
     {
-        if at > 0 || self.items.len() < FEW {
+        if at > 0 || self.items.len() < GAP_FROM {
             let _item = self.items.remove(self.gone + at);
             return;
         }

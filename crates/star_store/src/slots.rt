@@ -5,8 +5,8 @@
 //! defaults shares their row (`over`) and holds only the slots that differ: 2,000 defaults take as much memory and time
 //! as two.
 //!
-//! `near` is inlined for names of the innermost frame. It may answer nothing for any slot, and its contract speaks of
-//! the values that it answers; others take the general way (`read_far` of `star_world`).
+//! `near` is inlined for names of the innermost frame. It may answer `None` for any slot, and its contract is about the
+//! values that it answers. Other names take the general way (`read_far` of `star_world`).
 
 ghost use Rattle.std.specs.Prelude.{◌≡◌, ◌+◌, ◌^◌, ◌<◌, ◌≤◌, ℕ, None, Some, if◌then◌else◌, length, nat_eq, replicate, slice_get, slice_set, IfOk, IfSome, OnErr, OnOk};
 ghost use Rattle.std.specs.Option.{option_flatten};
@@ -91,7 +91,7 @@ impl Slots {
         })
     }
 
-    /// The value of a slot in the vector. `None` says nothing: the value may be elsewhere.
+    /// The value of a slot in the vector. `None` does not mean that the slot has no value: it may be elsewhere.
     #[inline(always)]
     #[tactic(auto, using(crate::proofs::Rows::row_near))]
     pub fn near(&self, at: usize) -> Option<Value>

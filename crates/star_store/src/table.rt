@@ -1,8 +1,8 @@
-//! The table of a published store: at which addresses it has the keys of a content. It is made once walks in its place
-//! have cost as much, and kept.
+//! The table of a published store: the addresses where it has the keys of a content. It is made once the walks in its
+//! place have cost as much as it does, and is then kept.
 //!
-//! A table says which cells it is of by what shows that a slot has a snapshot of them (`Written`, of no bytes): a slot
-//! has one value for good, so the table that is found beside a store is of the store's own cells.
+//! A table names its cells by a witness that a slot has a snapshot of them (`Written`, of no bytes). A slot has one
+//! value for good, so the table beside a store is of the store's own cells.
 
 ghost use Rattle.std.specs.Prelude.{◌≡◌, ◌<◌, ◌∷◌, ◌++◌, [], List, ℕ, Some, IfSome, IfOk, OnOk, length, drop, set, slice_get};
 ghost use Rattle.std.specs.Option.{option_copied};
@@ -19,7 +19,7 @@ use std::marker::Model;
 use std::snapshot::Snapshot;
 use std::sync::atomic::{AtomicUsize, Ordering};
 
-/// What shows which cells are meant.
+/// The witness that a slot has a snapshot of these cells.
 pub(crate) type Cells = Written<Snapshot<Vec<HeapCell>>>;
 
 /// The addresses of the keys that have one content: mostly one, which takes no memory of its own.
@@ -148,7 +148,7 @@ impl Table {
     }
 }
 
-/// What was found out about a store: its table, or that it has none, since another file made a part of its keys.
+/// The finding about a store: its table, or that it has none, since another file made a part of its keys.
 type Found = Option<Table>;
 
 /// A snapshot may be of any cells.
@@ -211,13 +211,13 @@ impl TableSlot {
         })
     }
 
-    /// Whether a table of so many cells is due, now that a dictionary of so many entries is asked: once walks have cost
-    /// as much as it does.
+    /// Whether a table of `cells` cells is due, now that a dictionary of `entries` entries is asked. It is due once
+    /// walks have cost as much as it does.
     pub(crate) fn is_due(&self, entries: usize, cells: usize) -> bool {
         self.walked.fetch_add(entries, Ordering::SeqCst) >= cells
     }
 
-    /// What was found out, if anything was.
+    /// The finding, if there is one already.
     pub(crate) fn get(&self) -> Option<&Found>
         ensures { IfSome result (λ found. IfSome found.now (λ t. t.cells.value.value.items ≡ self.now)) }
     {
@@ -228,7 +228,8 @@ impl TableSlot {
         Some(found)
     }
 
-    /// Keeps a table of these rows, or that there is none. Returns what is kept: another thread may have been first.
+    /// Keeps a table of these rows, or the finding that there is none. Returns the finding that is kept: another thread
+    /// may have been first.
     pub(crate) fn set(&self, home: u32, rows: Option<Rows>) -> Option<&Found>
         requires { IfSome rows (λ r. AreRows home self.now r.contents r.addresses.items) }
         ensures { IfSome result (λ found. IfSome found.now (λ t. t.cells.value.value.items ≡ self.now)) }

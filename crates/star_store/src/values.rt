@@ -9,7 +9,7 @@
 //! literal is copied once, from its file, and a run copies none.
 //!
 //! Rows are made with room if the number of items is known: a row that grows takes up to twice the memory and moves its
-//! items. No contract speaks of room.
+//! items. No contract is about room.
 
 ghost use Rattle.std.specs.Prelude.{◌≡◌, ◌<◌, ◌≤◌, List, Some, [], ◌∷◌, ◌++◌, length, slice_get, slice_set, IfOk, OnOk, OnErr};
 ghost use Rattle.std.specs.List.{insert, remove};

@@ -14,9 +14,9 @@ use Rattle.star_tree.specs.declared.tree.Position.{Position}
 use Rattle.star_tree.specs.declared.tree.Expression.{Expression}
 use Rattle.star_syntax.specs.Sorts.{Sort, Val, maybe}
 use Rattle.star_syntax.specs.Sorts as sorts
-use Rattle.star_syntax.specs.Grammar.{G, one, seq, alt, fold, act, the, Answer, Readers, level, run, rounds, step, and_then, or_else, before_rest, first}
+use Rattle.star_syntax.specs.Grammar.{Part, terminal, seq, alt, fold, act, nonterminal, Answer, Readers, level, run, rounds, step, and_then, or_else, before_rest, first}
 use Rattle.star_syntax.specs.Alone.{ReadAlone}
-use Rattle.star_syntax.specs.Expressions.{right_of, after, before, opt, sign_, keyword_, keyword_at, is_keyword, unary_word, comparator_word, atom_of, atom, with_suffix, name, given, in_brackets, parentheses, list_display, dict_display, operand, lambda_of, lambda_parameters, lambda, a_test, attribute, call, subscript, suffix, primary, unary_of, unary_operator, signed, unary, binary_of, binary_operator, climb, round_at, bit_or, not_in_of, comparator, compared, comparison_of, comparison, denied_of, denied, negation, and_of, next_negation, conjunction, or_of, next_conjunction, disjunction, choice, conditional_of, conditional, any_test}
+use Rattle.star_syntax.specs.Expressions.{right_of, after, before, opt, sign_, keyword_, keyword_at, is_keyword, unary_word, comparator_word, atom_of, atom, with_suffix, name, optional_arguments, in_brackets, parentheses, list_display, dict_display, operand, lambda_of, lambda_parameters, lambda, a_test, attribute, call, subscript, suffix, primary, unary_of, unary_operator, sign_operand, unary, binary_of, binary_operator, climb, round_at, bit_or, not_in_of, comparator, compared, comparison_of, comparison, not_of, not_operand, negation, and_of, next_negation, conjunction, or_of, next_conjunction, disjunction, choice, conditional_of, conditional, any_test}
 use Rattle.star_syntax.specs.Language.{Gives, rule, rule_of_level}
 use Rattle.star_syntax.specs.Written.{EndsBefore}
 use Rattle.star_syntax.proofs.Makes.{by-atom}
@@ -29,33 +29,33 @@ abbrev or-nothing : (a : Sort) → List ValuedToken → Answer (Val (maybe a)) �
 or-nothing a ts q = or_else q (Some (None, ts))
 
 module _ (knot : Readers) where
-  act-none' : {a : Sort} (b : Sort) (f : Val a → Val b) (g : G a) (ts : List ValuedToken) → step knot g ts ≡ None → step knot (act f g) ts ≡ None
+  act-none' : {a : Sort} (b : Sort) (f : Val a → Val b) (g : Part a) (ts : List ValuedToken) → step knot g ts ≡ None → step knot (act f g) ts ≡ None
   act-none' b f g ts n = ap (λ r. and_then r (λ x us. Some (f x, us))) n
 
-  act-some' : {a : Sort} (b : Sort) (f : Val a → Val b) (g : G a) (ts us : List ValuedToken) (x : Val a) → step knot g ts ≡ Some (x, us) → step knot (act f g) ts ≡ Some (f x, us)
+  act-some' : {a : Sort} (b : Sort) (f : Val a → Val b) (g : Part a) (ts us : List ValuedToken) (x : Val a) → step knot g ts ≡ Some (x, us) → step knot (act f g) ts ≡ Some (f x, us)
   act-some' b f g ts us x d = ap (λ r. and_then r (λ x us. Some (f x, us))) d
 
-  seq-none : {a b : Sort} (g : G a) (h : G b) (ts : List ValuedToken) → step knot g ts ≡ None → step knot (seq g h) ts ≡ None
+  seq-none : {a b : Sort} (g : Part a) (h : Part b) (ts : List ValuedToken) → step knot g ts ≡ None → step knot (seq g h) ts ≡ None
   seq-none g h ts n = ap (λ r. and_then r (λ x us. and_then (step knot h us) (λ y vs. Some ((x, y), vs)))) n
 
-  seq-some' : {a b : Sort} (g : G a) (h : G b) (ts us vs : List ValuedToken) (x : Val a) (y : Val b) → step knot g ts ≡ Some (x, us) → step knot h us ≡ Some (y, vs) → step knot (seq g h) ts ≡ Some ((x, y), vs)
+  seq-some' : {a b : Sort} (g : Part a) (h : Part b) (ts us vs : List ValuedToken) (x : Val a) (y : Val b) → step knot g ts ≡ Some (x, us) → step knot h us ≡ Some (y, vs) → step knot (seq g h) ts ≡ Some ((x, y), vs)
   seq-some' g h ts us vs x y d e =
       ap (λ r. and_then r (λ x us. and_then (step knot h us) (λ y vs. Some ((x, y), vs)))) d
       ∙ ap (λ r. and_then r (λ y vs. Some ((x, y), vs))) e
 
-  after-none : {a b : Sort} (g : G a) (h : G b) (ts : List ValuedToken) → step knot g ts ≡ None → step knot (after g h) ts ≡ None
+  after-none : {a b : Sort} (g : Part a) (h : Part b) (ts : List ValuedToken) → step knot g ts ≡ None → step knot (after g h) ts ≡ None
   after-none {b = b} g h ts n = act-none' b right_of (seq g h) ts (seq-none g h ts n)
 
-  alt-one : {a : Sort} (g h : G a) (ts : List ValuedToken) (p : Val a × List ValuedToken) → step knot g ts ≡ Some p → step knot (alt g h) ts ≡ Some p
+  alt-one : {a : Sort} (g h : Part a) (ts : List ValuedToken) (p : Val a × List ValuedToken) → step knot g ts ≡ Some p → step knot (alt g h) ts ≡ Some p
   alt-one g h ts p d = ap (λ r. or_else r (step knot h ts)) d
 
-  alt-other : (a : Sort) (g h : G a) (ts : List ValuedToken) (r : Answer (Val a)) → step knot g ts ≡ None → step knot h ts ≡ r → step knot (alt g h) ts ≡ r
+  alt-other : (a : Sort) (g h : Part a) (ts : List ValuedToken) (r : Answer (Val a)) → step knot g ts ≡ None → step knot h ts ≡ r → step knot (alt g h) ts ≡ r
   alt-other a g h ts r n d = ap (λ q. or_else q (step knot h ts)) n ∙ d
 
-  opt-none : {a : Sort} (g : G a) (ts : List ValuedToken) → step knot g ts ≡ None → step knot (opt g) ts ≡ Some (None, ts)
+  opt-none : {a : Sort} (g : Part a) (ts : List ValuedToken) → step knot g ts ≡ None → step knot (opt g) ts ≡ Some (None, ts)
   opt-none {a = a} g ts n = ap (or-nothing a ts) (act-none' (maybe a) Some g ts n)
 
-  fold-rest : {a b : Sort} (f : Val a → Val b → Val a) (g : G a) (h : G b) (ts us : List ValuedToken) (x : Val a) → step knot g ts ≡ Some (x, us) → step knot h us ≡ None → step knot (fold f g h) ts ≡ Some (x, us)
+  fold-rest : {a b : Sort} (f : Val a → Val b → Val a) (g : Part a) (h : Part b) (ts us : List ValuedToken) (x : Val a) → step knot g ts ≡ Some (x, us) → step knot h us ≡ None → step knot (fold f g h) ts ≡ Some (x, us)
   fold-rest f g h ts us x d n =
       ap (λ r. and_then r (λ x us. rounds f (step knot h) (length us) x us)) d ∙ rest f (step knot h) (length us) x us n
 
@@ -81,7 +81,7 @@ module _ (knot : Readers) (t u : ValuedToken) (us : List ValuedToken) (x : Expre
       alt-other knot sorts.suffix attribute (alt call subscript) (u ∷ us) None
       (act-none' knot sorts.suffix suffixes.Attribute (after (sign_ s.Dot) name) (u ∷ us) (after-none knot (sign_ s.Dot) name (u ∷ us) (ap (λ o. before_rest o us) e.suffix'.dot)))
       (alt-other knot sorts.suffix call subscript (u ∷ us) None
-      (act-none' knot sorts.suffix suffixes.Call (after (sign_ s.LeftParen) (before given (sign_ s.RightParen))) (u ∷ us) (after-none knot (sign_ s.LeftParen) (before given (sign_ s.RightParen)) (u ∷ us) (ap (λ o. before_rest o us) e.suffix'.paren)))
+      (act-none' knot sorts.suffix suffixes.Call (after (sign_ s.LeftParen) (before optional_arguments (sign_ s.RightParen))) (u ∷ us) (after-none knot (sign_ s.LeftParen) (before optional_arguments (sign_ s.RightParen)) (u ∷ us) (ap (λ o. before_rest o us) e.suffix'.paren)))
       (after-none knot (sign_ s.LeftBracket) (before in_brackets (sign_ s.RightBracket)) (u ∷ us) (ap (λ o. before_rest o us) e.suffix'.bracket)))
 
   no-round : (n : ℕ) → step knot (round_at n) (u ∷ us) ≡ None
@@ -91,7 +91,7 @@ module _ (knot : Readers) (t u : ValuedToken) (us : List ValuedToken) (x : Expre
   unfolding compared comparator
   no-comparison =
       seq-none knot comparator bit_or (u ∷ us)
-      (alt-other knot sorts.comparator (one (λ t. comparator_word t.word)) (act not_in_of (seq (keyword_ k.Not) (keyword_ k.In))) (u ∷ us) None
+      (alt-other knot sorts.comparator (terminal (λ t. comparator_word t.word)) (act not_in_of (seq (keyword_ k.Not) (keyword_ k.In))) (u ∷ us) None
       (ap (λ o. before_rest o us) e.comparator'.sign)
       (act-none' knot sorts.comparator not_in_of (seq (keyword_ k.Not) (keyword_ k.In)) (u ∷ us) (seq-none knot (keyword_ k.Not) (keyword_ k.In) (u ∷ us) (ap (λ o. before_rest o us) e.comparator'.denial))))
 
@@ -116,9 +116,9 @@ module _ (knot : Readers) (t u : ValuedToken) (us : List ValuedToken) (x : Expre
   primary-read = fold-rest knot with_suffix operand suffix All (u ∷ us) x operand-read no-suffix
 
   unary-read : IsRead (step knot unary All)
-  unfolding unary signed
-  unary-read = alt-other knot sorts.expression signed primary All (Some (x, u ∷ us))
-      (act-none' knot sorts.expression unary_of (seq unary_operator (the (level levels.Unary))) All (seq-none knot unary_operator (the (level levels.Unary)) All (ap (λ o. before_rest o (u ∷ us)) a.sign)))
+  unfolding unary sign_operand
+  unary-read = alt-other knot sorts.expression sign_operand primary All (Some (x, u ∷ us))
+      (act-none' knot sorts.expression unary_of (seq unary_operator (nonterminal (level levels.Unary))) All (seq-none knot unary_operator (nonterminal (level levels.Unary)) All (ap (λ o. before_rest o (u ∷ us)) a.sign)))
       primary-read
 
   climb-read : (n : ℕ) → IsRead (step knot (climb n) All)
@@ -136,9 +136,9 @@ module _ (knot : Readers) (t u : ValuedToken) (us : List ValuedToken) (x : Expre
       (seq-some' knot bit_or (opt compared) All (u ∷ us) (u ∷ us) x None bit-or-read (opt-none knot compared (u ∷ us) no-comparison))
 
   negation-read : IsRead (step knot negation All)
-  unfolding negation denied
-  negation-read = alt-other knot sorts.expression denied comparison All (Some (x, u ∷ us))
-      (act-none' knot sorts.expression denied_of (after (keyword_ k.Not) (the (level levels.Negation))) All (after-none knot (keyword_ k.Not) (the (level levels.Negation)) All (ap (λ o. before_rest o (u ∷ us)) a.denial)))
+  unfolding negation not_operand
+  negation-read = alt-other knot sorts.expression not_operand comparison All (Some (x, u ∷ us))
+      (act-none' knot sorts.expression not_of (after (keyword_ k.Not) (nonterminal (level levels.Negation))) All (after-none knot (keyword_ k.Not) (nonterminal (level levels.Negation)) All (ap (λ o. before_rest o (u ∷ us)) a.denial)))
       comparison-read
 
   conjunction-read : IsRead (step knot conjunction All)

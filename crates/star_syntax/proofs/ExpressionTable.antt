@@ -4,7 +4,7 @@ use Rattle.star_syntax.specs.declared.level.Level.{Level}
 use Rattle.star_syntax.specs.declared.level.Level.TheVariants as levels
 use Rattle.star_syntax.specs.Grammar.{level}
 use Rattle.star_syntax.proofs.Soundness.{cost, safe}
-use Rattle.star_syntax.specs.Expressions.{next_test, list_of_tests, next_primary, list_of_primaries, primaries, targets, for_clause, if_clause, next_clause, further_clauses, all_clauses, inside, parentheses, further_tests, after_element, elements, list_display, entry, next_entry, further_entries, after_entry, entries, dict_display, atom, operand, named, argument, next_argument, list_of_arguments, ordered_arguments, given, default, named_parameter, star, star_star, parameter, next_parameter, list_of_parameters, ordered_parameters, lambda_parameters, lambda, attribute, call, stride, stop_and_stride, after_start, from_test, in_brackets, subscript, suffix, primary, signed, unary, climb, bit_or, comparator, compared, comparison, denied, negation, next_negation, conjunction, next_conjunction, disjunction, choice, conditional, any_test}
+use Rattle.star_syntax.specs.Expressions.{next_test, list_of_tests, next_primary, list_of_primaries, primaries, targets, for_clause, if_clause, next_clause, further_clauses, all_clauses, inside, parentheses, further_tests, after_element, elements, list_display, entry, next_entry, further_entries, after_entry, entries, dict_display, atom, operand, named, argument, next_argument, list_of_arguments, ordered_arguments, optional_arguments, default, named_parameter, star, star_star, parameter, next_parameter, list_of_parameters, ordered_parameters, lambda_parameters, lambda, attribute, call, stride, stop_and_stride, after_start, from_test, in_brackets, subscript, suffix, primary, sign_operand, unary, climb, bit_or, comparator, compared, comparison, not_operand, negation, next_negation, conjunction, next_conjunction, disjunction, choice, conditional, any_test}
 use Rattle.star_syntax.specs.Language.{rule}
 use Rattle.star_syntax.proofs.Ranks.{rank}
 
@@ -49,11 +49,11 @@ unfolding operand atom
 operand-safe m = simp (parentheses-safe, list-safe, dict-safe)
 
 call-cost : cost call ≡ 2
-unfolding call given ordered_arguments list_of_arguments argument named
+unfolding call optional_arguments ordered_arguments list_of_arguments argument named
 call-cost = refl
 
 call-safe : (m : ℕ) → safe rank 2 m call ≡ true
-unfolding call given ordered_arguments list_of_arguments argument named next_argument
+unfolding call optional_arguments ordered_arguments list_of_arguments argument named next_argument
 call-safe m = refl
 
 subscript-cost : cost subscript ≡ 3
@@ -81,11 +81,11 @@ unfolding primary
 primary-safe m = simp (operand-safe, operand-cost, suffix-safe, suffix-cost)
 
 unary-cost : cost unary ≡ 1
-unfolding unary signed
+unfolding unary sign_operand
 unary-cost = simp primary-cost
 
 unary-safe : (m : ℕ) → safe rank 2 m unary ≡ true
-unfolding unary signed
+unfolding unary sign_operand
 unary-safe m = primary-safe m
 
 climb-cost : (n : ℕ) → cost (climb n) ≡ 1
@@ -99,11 +99,11 @@ climb-safe zero m = unary-safe m
 climb-safe (suc n) m = simp (climb-safe n, climb-cost n)
 
 negation-cost : cost negation ≡ 1
-unfolding negation denied comparison compared comparator bit_or
+unfolding negation not_operand comparison compared comparator bit_or
 negation-cost = simp (climb-cost 6)
 
 negation-safe : (m : ℕ) → safe rank 2 m negation ≡ true
-unfolding negation denied comparison compared comparator bit_or
+unfolding negation not_operand comparison compared comparator bit_or
 negation-safe m = simp (climb-safe 6, climb-cost 6)
 
 disjunction-cost : cost disjunction ≡ 1

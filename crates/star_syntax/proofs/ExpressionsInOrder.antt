@@ -15,10 +15,10 @@ use Rattle.star_tree.specs.declared.tree.Entry.{Entry}
 use Rattle.star_tree.specs.declared.tree.Expression.{Expression}
 use Rattle.star_syntax.specs.Sorts.{Val, both, maybe, list}
 use Rattle.star_syntax.specs.Sorts as sorts
-use Rattle.star_syntax.specs.Grammar.{level, the, Readers}
+use Rattle.star_syntax.specs.Grammar.{level, nonterminal, Readers}
 use Rattle.star_syntax.specs.InOrder.{parameter_in_order}
 use Rattle.star_syntax.specs.Keeps.{keep, arguments_in_order, parameters_in_order}
-use Rattle.star_syntax.specs.Expressions.{StopAndStride, atom_of, tuple_unless_one, parentheses_of, list_of, dict_of, comparison_of, conditional_of, subscript_of, with_suffix, parameter_of, star_of, next_test, list_of_tests, tests, next_primary, list_of_primaries, primaries, targets, for_clause, if_clause, next_clause, further_clauses, all_clauses, inside, parentheses, further_tests, after_element, elements, list_display, entry, next_entry, further_entries, after_entry, entries, dict_display, atom, operand, named, argument, next_argument, list_of_arguments, ordered_arguments, given, default, named_parameter, star, star_star, parameter, next_parameter, list_of_parameters, ordered_parameters, taken, parameters_in_parentheses, lambda_parameters, lambda, attribute, call, stride, stop_and_stride, after_start, from_test, in_brackets, subscript, suffix, primary, signed, unary, climb, bit_or, compared, comparison, denied, negation, next_negation, conjunction, next_conjunction, disjunction, choice, conditional, any_test}
+use Rattle.star_syntax.specs.Expressions.{StopAndStride, atom_of, tuple_unless_one, parentheses_of, list_of, dict_of, comparison_of, conditional_of, subscript_of, with_suffix, parameter_of, star_of, next_test, list_of_tests, tests, next_primary, list_of_primaries, primaries, targets, for_clause, if_clause, next_clause, further_clauses, all_clauses, inside, parentheses, further_tests, after_element, elements, list_display, entry, next_entry, further_entries, after_entry, entries, dict_display, atom, operand, named, argument, next_argument, list_of_arguments, ordered_arguments, optional_arguments, default, named_parameter, star, star_star, parameter, next_parameter, list_of_parameters, ordered_parameters, optional_parameters, parameters_in_parentheses, lambda_parameters, lambda, attribute, call, stride, stop_and_stride, after_start, from_test, in_brackets, subscript, suffix, primary, sign_operand, unary, climb, bit_or, compared, comparison, not_operand, negation, next_negation, conjunction, next_conjunction, disjunction, choice, conditional, any_test}
 use Rattle.star_syntax.proofs.Kept.{Holds, OfExpression, OfTarget, Given, Taken, of-Name, of-Int, of-Text, of-Tuple, of-List, of-Dict, of-ListComprehension, of-DictComprehension, of-Unary, of-Binary, of-Compare, of-And, of-Or, of-Conditional, of-Lambda, of-Call, of-Attribute, of-Index, of-Slice, of-Positional, of-Named, of-StarArgument, of-StarStarArgument, of-Plain, of-Default, of-StarParameter, of-BareStar, of-StarStarParameter, of-For, of-If, of-clauses, of-entry}
 use Rattle.star_syntax.proofs.Makes.{Makes, Each, Maybe, by-atom, nothing-found, same_some, makes-any, makes-one, makes-seq, makes-alt, makes-act, makes-when, makes-fold, makes-after, makes-before, makes-opt, makes-list, makes-rep}
 use Rattle.star_syntax.proofs.Orders.{argument_in_order, clause_in_order, clauses_in_order, entry_in_order}
@@ -107,7 +107,7 @@ ordered test P xs ys k e = let p = passed test xs ys e in subst (λ zs. (test zs
 
 -- ---- productions
 
-module _ (k : Readers) (m : (l : Level) → Makes k sorts.expression (the (level l)) OfExpression) where
+module _ (k : Readers) (m : (l : Level) → Makes k sorts.expression (nonterminal (level l)) OfExpression) where
   next-test : Makes k _ next_test OfExpression
   unfolding next_test
   next-test = makes-after k (m levels.Test)
@@ -171,8 +171,8 @@ module _ (k : Readers) (m : (l : Level) → Makes k sorts.expression (the (level
   argument' = makes-alt k (makes-act k (λ p q. of-Named p.0 p.1 q.1) (makes-seq k (makes-any k) (m levels.Test)))
       (makes-alt k (makes-act k of-StarArgument (makes-after k (m levels.Test))) (makes-alt k (makes-act k of-StarStarArgument (makes-after k (m levels.Test))) (makes-act k of-Positional (m levels.Test))))
 
-  given' : Makes k _ given Given
-  unfolding given ordered_arguments list_of_arguments next_argument
+  given' : Makes k _ optional_arguments Given
+  unfolding optional_arguments ordered_arguments list_of_arguments next_argument
   given' = makes-alt k (makes-before k (makes-when k (ordered arguments_in_order (Holds argument_in_order)) (makes-list k argument' (makes-after k argument')))) (makes-act k (λ u q. (refl, tt)) (makes-any k))
 
   parameter' : Makes k _ parameter (Holds parameter_in_order)
@@ -185,7 +185,7 @@ module _ (k : Readers) (m : (l : Level) → Makes k sorts.expression (the (level
   ordered-parameters = makes-when k (ordered parameters_in_order (Holds parameter_in_order)) (makes-list k parameter' (makes-after k parameter'))
 
   pub parameters-in-parentheses : Makes k _ parameters_in_parentheses Taken
-  unfolding parameters_in_parentheses taken
+  unfolding parameters_in_parentheses optional_parameters
   parameters-in-parentheses = makes-after k (makes-before k (makes-alt k (makes-before k ordered-parameters) (makes-act k (λ u q. (refl, tt)) (makes-any k))))
 
   lambda' : Makes k _ lambda OfExpression
@@ -211,7 +211,7 @@ module _ (k : Readers) (m : (l : Level) → Makes k sorts.expression (the (level
   primary' = makes-fold k a-suffix operand' suffix'
 
   pub unary' : Makes k _ unary OfExpression
-  unfolding unary signed
+  unfolding unary sign_operand
   unary' = makes-alt k (makes-act k (λ p q. of-Unary p.0 p.1 q.1) (makes-seq k (makes-any k) (m levels.Unary))) primary'
 
   pub climb' : (n : ℕ) → Makes k _ (climb n) OfExpression
@@ -224,7 +224,7 @@ module _ (k : Readers) (m : (l : Level) → Makes k sorts.expression (the (level
   comparison' = makes-act k a-comparison (makes-seq k (climb' 6) (makes-opt k (makes-seq k (makes-any k) (climb' 6))))
 
   pub negation' : Makes k _ negation OfExpression
-  unfolding negation denied
+  unfolding negation not_operand
   negation' = makes-alt k (makes-act k (of-Unary unaries.Not) (makes-after k (m levels.Negation))) comparison'
 
   conjunction' : Makes k _ conjunction OfExpression

@@ -4,7 +4,7 @@ use Rattle.star_syntax.specs.declared.level.Level.{Level}
 use Rattle.star_syntax.specs.declared.level.Level.TheVariants as levels
 use Rattle.star_syntax.specs.Sorts.{Sort, Val, list}
 use Rattle.star_syntax.specs.Sorts as sorts
-use Rattle.star_syntax.specs.Grammar.{Rule, level, statement, sort, the, Readers, run}
+use Rattle.star_syntax.specs.Grammar.{Rule, level, statement, sort, nonterminal, Readers, run}
 use Rattle.star_syntax.specs.Language.{rule, rule_of_level}
 use Rattle.star_syntax.specs.InOrder.{statement_in_order, ReadInOrder, TreeInOrder, ReadIsWritten}
 use Rattle.star_syntax.proofs.Ranks.{rank}
@@ -22,7 +22,7 @@ OfRule (level l) = OfExpression
 OfRule statement = Each OfStatement
 
 abbrev Keeps : Readers → Type 0
-Keeps k = (r : Rule) → Makes k (sort r) (the r) (OfRule r)
+Keeps k = (r : Rule) → Makes k (sort r) (nonterminal r) (OfRule r)
 
 of-level : (k : Readers) → Keeps k → (l : Level) → Makes k sorts.expression (rule_of_level l) OfExpression
 of-level k keeps levels.Test = test' k (λ l. keeps (level l))

@@ -12,20 +12,20 @@ use Rattle.star_tree.specs.declared.tree.BinaryOperator.{BinaryOperator}
 use Rattle.star_tree.specs.declared.tree.BinaryOperator.TheVariants as binaries
 use Rattle.star_tree.specs.declared.tree.Expression.{Expression}
 use Rattle.star_tree.specs.declared.tree.Expression.TheVariants as e
-use Rattle.star_syntax.specs.Grammar.{level, the, Reads, hit, miss, free, seq-some, seq-first, alt-second, fold-some, act-none, act-some, itself, stop, more}
-use Rattle.star_syntax.specs.Expressions.{same_sign, same_keyword, is_keyword, unary_word, binary_word, binary_operator, operand, lambda, suffix, primary, signed, unary, climb, bit_or, comparator, compared, comparison, denied, negation, next_negation, conjunction, next_conjunction, disjunction, choice, conditional, any_test}
+use Rattle.star_syntax.specs.Grammar.{level, nonterminal, Reads, hit, miss, free, seq-some, seq-first, alt-second, fold-some, act-none, act-some, itself, stop, more}
+use Rattle.star_syntax.specs.Expressions.{same_sign, same_keyword, is_keyword, unary_word, binary_word, binary_operator, operand, lambda, suffix, primary, sign_operand, unary, climb, bit_or, comparator, compared, comparison, not_operand, negation, next_negation, conjunction, next_conjunction, disjunction, choice, conditional, any_test}
 use Rattle.star_syntax.specs.Language.{rule}
 use Rattle.star_syntax.specs.Written.{IsBinary, times, divided, modulo, plus, minus, to-left, to-right, bits-and, bits-xor, bits-or}
 use Rattle.star_syntax.proofs.Quiet.{Quiet, unplaced}
 
 -- no sign, `not` or `lambda` is in front
 pub record Front (ts : List ValuedToken) : Type 0 where
-  pub unsigned : Reads rule _ signed ts None
-  pub undenied : Reads rule _ denied ts None
+  pub unsigned : Reads rule _ sign_operand ts None
+  pub undenied : Reads rule _ not_operand ts None
   pub unbound : Reads rule _ lambda ts None
 
 pub front : (p : Position) (w : TokenValue) (ts : List ValuedToken) → unary_word w ≡ None → is_keyword k.Not w ≡ None → is_keyword k.Lambda w ≡ None → Front (record { word = w; position = p } ∷ ts)
-unfolding signed denied lambda
+unfolding sign_operand not_operand lambda
 front p w ts a b c = record { unsigned = act-none (seq-first (miss a)); undenied = act-none (act-none (seq-first (miss b))); unbound = act-none (seq-first (miss (unplaced p (is_keyword k.Lambda w) c))) }
 
 pub in_front : (p : Position) (ts : List ValuedToken) → Front (record { word = word.Punctuator s.LeftParen; position = p } ∷ ts)
@@ -82,7 +82,7 @@ module _ {ts us : List ValuedToken} {x : Expression} where
   unfolding comparison compared
   comparison-of d c = act-some {x = (x, None)} (seq-some d (alt-second (act-none (seq-first c)) (act-some free)))
 
-  pub negation-of : Reads rule _ denied ts None → Reads rule _ comparison ts (Some (x, us)) → Reads rule _ negation ts (Some (x, us))
+  pub negation-of : Reads rule _ not_operand ts None → Reads rule _ comparison ts (Some (x, us)) → Reads rule _ negation ts (Some (x, us))
   unfolding negation
   negation-of n d = alt-second n d
 
@@ -98,30 +98,30 @@ module _ {ts us : List ValuedToken} {x : Expression} where
   unfolding conditional
   conditional-of d i = act-some {x = (x, None)} (seq-some d (alt-second (act-none i) (act-some free)))
 
-  pub test-of : Reads rule _ lambda ts None → Reads rule _ conditional ts (Some (x, us)) → Reads rule _ (the (level levels.Test)) ts (Some (x, us))
+  pub test-of : Reads rule _ lambda ts None → Reads rule _ conditional ts (Some (x, us)) → Reads rule _ (nonterminal (level levels.Test)) ts (Some (x, us))
   unfolding any_test
   test-of l d = itself {r = level levels.Test} (alt-second l d)
 
   -- from a level to the loosest
-  pub from-disjunction : Reads rule _ lambda ts None → Quiet us → Reads rule _ disjunction ts (Some (x, us)) → Reads rule _ (the (level levels.Test)) ts (Some (x, us))
+  pub from-disjunction : Reads rule _ lambda ts None → Quiet us → Reads rule _ disjunction ts (Some (x, us)) → Reads rule _ (nonterminal (level levels.Test)) ts (Some (x, us))
   from-disjunction l q d = test-of l (conditional-of d q.if')
 
-  pub from-negation : Reads rule _ lambda ts None → Quiet us → Reads rule _ negation ts (Some (x, us)) → Reads rule _ (the (level levels.Test)) ts (Some (x, us))
+  pub from-negation : Reads rule _ lambda ts None → Quiet us → Reads rule _ negation ts (Some (x, us)) → Reads rule _ (nonterminal (level levels.Test)) ts (Some (x, us))
   from-negation l q d = from-disjunction l q (disjunction-of (conjunction-of d q.and') q.or')
 
-  pub from-comparison : Reads rule _ denied ts None → Reads rule _ lambda ts None → Quiet us → Reads rule _ comparison ts (Some (x, us)) → Reads rule _ (the (level levels.Test)) ts (Some (x, us))
+  pub from-comparison : Reads rule _ not_operand ts None → Reads rule _ lambda ts None → Quiet us → Reads rule _ comparison ts (Some (x, us)) → Reads rule _ (nonterminal (level levels.Test)) ts (Some (x, us))
   from-comparison n l q d = from-negation l q (negation-of n d)
 
-  pub from-bit-or : Reads rule _ denied ts None → Reads rule _ lambda ts None → Quiet us → Reads rule _ bit_or ts (Some (x, us)) → Reads rule _ (the (level levels.Test)) ts (Some (x, us))
+  pub from-bit-or : Reads rule _ not_operand ts None → Reads rule _ lambda ts None → Quiet us → Reads rule _ bit_or ts (Some (x, us)) → Reads rule _ (nonterminal (level levels.Test)) ts (Some (x, us))
   from-bit-or n l q d = from-comparison n l q (comparison-of d q.comparator')
 
-  pub from-unary : Reads rule _ denied ts None → Reads rule _ lambda ts None → Quiet us → Reads rule _ unary ts (Some (x, us)) → Reads rule _ (the (level levels.Test)) ts (Some (x, us))
+  pub from-unary : Reads rule _ not_operand ts None → Reads rule _ lambda ts None → Quiet us → Reads rule _ unary ts (Some (x, us)) → Reads rule _ (nonterminal (level levels.Test)) ts (Some (x, us))
   from-unary n l q d = from-bit-or n l q (bit-or-of d q.binary')
 
-  pub from-primary : Front ts → Quiet us → Reads rule _ primary ts (Some (x, us)) → Reads rule _ (the (level levels.Test)) ts (Some (x, us))
+  pub from-primary : Front ts → Quiet us → Reads rule _ primary ts (Some (x, us)) → Reads rule _ (nonterminal (level levels.Test)) ts (Some (x, us))
   from-primary f q d = from-unary f.undenied f.unbound q (unary-of f d)
 
-  pub from-operand : Front ts → Quiet us → Reads rule _ operand ts (Some (x, us)) → Reads rule _ (the (level levels.Test)) ts (Some (x, us))
+  pub from-operand : Front ts → Quiet us → Reads rule _ operand ts (Some (x, us)) → Reads rule _ (nonterminal (level levels.Test)) ts (Some (x, us))
   from-operand f q d = from-primary f q (primary-of d q.suffix')
 
 -- ---- one sign between two operands

@@ -30,7 +30,7 @@ clauses_in_order = folds.para-Clauses Bool Bool Bool Bool Bool Bool Bool argumen
 unfoldable pub entry_in_order : Entry → Bool
 entry_in_order = folds.para-Entry Bool Bool Bool Bool Bool Bool Bool argument_step clause_step expression_step parameter_step target_step clauses_step entry_step
 
--- what makes a layer of its seven kinds of parts
+-- the function that makes a layer of its seven kinds of parts
 abbrev pub Layer : Type 1
 Layer = Type 0 → Type 0 → Type 0 → Type 0 → Type 0 → Type 0 → Type 0 → Type 0
 

@@ -6,8 +6,8 @@ use Rattle.star_syntax.specs.declared.leaf.TokenValue.{TokenValue}
 use Rattle.star_syntax.specs.declared.leaf.ValuedToken.{ValuedToken}
 use Rattle.star_syntax.specs.declared.level.Level.TheVariants as levels
 use Rattle.star_tree.specs.declared.tree.Position.{Position}
-use Rattle.star_syntax.specs.Grammar.{level, the, Reads, miss, over, seq-first, alt-second, fold-none, act-none, itself}
-use Rattle.star_syntax.specs.Expressions.{same_sign, same_keyword, is_sign, is_keyword, unary_word, binary_word, comparator_word, atom_of, placed_at, binary_operator, parentheses, list_display, dict_display, atom, operand, lambda, attribute, call, subscript, suffix, primary, signed, unary, climb, bit_or, comparator, comparison, denied, negation, next_negation, conjunction, next_conjunction, disjunction, choice, conditional, any_test}
+use Rattle.star_syntax.specs.Grammar.{level, nonterminal, Reads, miss, over, seq-first, alt-second, fold-none, act-none, itself}
+use Rattle.star_syntax.specs.Expressions.{same_sign, same_keyword, is_sign, is_keyword, unary_word, binary_word, comparator_word, atom_of, placed_at, binary_operator, parentheses, list_display, dict_display, atom, operand, lambda, attribute, call, subscript, suffix, primary, sign_operand, unary, climb, bit_or, comparator, comparison, not_operand, negation, next_negation, conjunction, next_conjunction, disjunction, choice, conditional, any_test}
 use Rattle.star_syntax.specs.Language.{rule}
 use Rattle.star_syntax.specs.Written.{EndsBefore, right-paren, right-bracket, right-brace, comma, colon, semicolon, assign, plus-assign, minus-assign, star-assign, slashes-assign, percent-assign, ampersand-assign, bar-assign, caret-assign, left-assign, right-assign, new-line, for', else', Stops, nothing-more, before}
 
@@ -27,7 +27,7 @@ suffix-over : Reads rule _ suffix [] None
 unfolding suffix attribute call subscript
 suffix-over = alt-second (act-none (act-none (seq-first over))) (alt-second (act-none (act-none (seq-first over))) (act-none (seq-first over)))
 
--- no comparison goes on with the word
+-- the word continues no comparison
 pub record NoComparator (w : TokenValue) : Type 0 where
   pub sign : comparator_word w ≡ None
   pub denial : is_keyword k.Not w ≡ None
@@ -52,7 +52,7 @@ pub if-none : {p : Position} {w : TokenValue} {ts : List ValuedToken} → is_key
 unfolding choice
 if-none n = act-none (seq-first (miss n))
 
--- words with which no part of an expression goes on
+-- words that continue no part of an expression
 pub record Quiet (ts : List ValuedToken) : Type 0 where
   pub suffix' : Reads rule _ suffix ts None
   pub binary' : (n : ℕ) → Reads rule _ (binary_operator n) ts None
@@ -61,7 +61,7 @@ pub record Quiet (ts : List ValuedToken) : Type 0 where
   pub or' : Reads rule _ next_conjunction ts None
   pub if' : Reads rule _ choice ts None
 
--- the same of a word
+-- the same for a word
 pub record QuietWord (w : TokenValue) : Type 0 where
   pub suffix' : NoSuffix w
   pub binary' : (n : ℕ) → binary_word n w ≡ None
@@ -125,7 +125,7 @@ module _ (p : Position) (w : TokenValue) (ts : List ValuedToken) (n : BeginsNone
   primary-none = fold-none operand-none
 
   unary-none : Reads rule _ unary (record { word = w; position = p } ∷ ts) None
-  unfolding unary signed
+  unfolding unary sign_operand
   unary-none = alt-second (act-none (seq-first (miss n.sign))) primary-none
 
   climb-none : (l : ℕ) → Reads rule _ (climb l) (record { word = w; position = p } ∷ ts) None
@@ -134,13 +134,13 @@ module _ (p : Position) (w : TokenValue) (ts : List ValuedToken) (n : BeginsNone
   climb-none (suc l) = fold-none (climb-none l)
 
   negation-none : Reads rule _ negation (record { word = w; position = p } ∷ ts) None
-  unfolding negation denied comparison bit_or
+  unfolding negation not_operand comparison bit_or
   negation-none = alt-second (act-none (act-none (seq-first (miss n.denial)))) (act-none (seq-first (climb-none 6)))
 
   disjunction-none : Reads rule _ disjunction (record { word = w; position = p } ∷ ts) None
   unfolding disjunction conjunction
   disjunction-none = fold-none (fold-none negation-none)
 
-  pub test-none : Reads rule _ (the (level levels.Test)) (record { word = w; position = p } ∷ ts) None
+  pub test-none : Reads rule _ (nonterminal (level levels.Test)) (record { word = w; position = p } ∷ ts) None
   unfolding any_test lambda conditional
   test-none = itself {r = level levels.Test} (alt-second (act-none (seq-first (miss (unplaced p (is_keyword k.Lambda w) n.lambda')))) (act-none (seq-first disjunction-none)))

@@ -6,7 +6,7 @@ use borrow.Author.Tests.{ltb-true, leb-true}
 use Rattle.star_syntax.specs.declared.leaf.ValuedToken.{ValuedToken}
 use Rattle.star_syntax.specs.Sorts.{Sort, both, Val}
 use Rattle.star_syntax.specs.Sorts as sorts
-use Rattle.star_syntax.specs.Grammar.{Rule, sort, G, one, empty, seq, alt, fold, act, when, placed, the, Answer, Spells, one', empty', seq', left', right', start', round', act', when', placed', the', Reads, hit, miss, over, free, seq-some, seq-first, seq-second, alt-first, alt-second, fold-none, fold-some, act-none, act-some, when-none, when-broken, when-some, placed-none, placed-some, itself, Rounds, stop, more, step, run, rounds, Readers, first, before_rest, located, and_then, or_else}
+use Rattle.star_syntax.specs.Grammar.{Rule, sort, Part, terminal, empty, seq, alt, fold, act, when, placed, nonterminal, Answer, Spells, terminal', empty', seq', left', right', start', round', act', when', placed', nonterminal', Reads, hit, miss, over, free, seq-some, seq-first, seq-second, alt-first, alt-second, fold-none, fold-some, act-none, act-some, when-none, when-broken, when-some, placed-none, placed-some, itself, Rounds, stop, more, step, run, rounds, Readers, first, before_rest, located, and_then, or_else}
 use Rattle.star_syntax.proofs.Soundness.{cost, rank_after, safe, Sound}
 
 le_true : (a b : ℕ) → nat_le a b ≡ true → a ≤ b
@@ -23,21 +23,21 @@ abbrev tail_of : List ValuedToken → List ValuedToken
 tail_of [] = []
 tail_of (x ∷ xs) = xs
 
-module _ (rule : (r : Rule) → G (sort r)) where
+module _ (rule : (r : Rule) → Part (sort r)) where
   -- the tokens up to the rest are spelled by the tree
-  abbrev pub Spelled : {s : Sort} → G s → List ValuedToken → Answer (Val s) → Type 0
+  abbrev pub Spelled : {s : Sort} → Part s → List ValuedToken → Answer (Val s) → Type 0
   Spelled g ts None = Unit {0}
   Spelled g ts (Some p) = (xs : List ValuedToken) × (ts ≡ xs ++ p.1) × Spells rule _ g p.0 xs
 
-  weaken-right : {s : Sort} (g h : G s) (ts : List ValuedToken) (r : Answer (Val s)) → Spelled h ts r → Spelled (alt g h) ts r
+  weaken-right : {s : Sort} (g h : Part s) (ts : List ValuedToken) (r : Answer (Val s)) → Spelled h ts r → Spelled (alt g h) ts r
   weaken-right g h ts None k = tt
   weaken-right g h ts (Some p) k = (k.0, k.1, right' k.2)
 
-  weaken-the : (r : Rule) (ts : List ValuedToken) (a : Answer (Val (sort r))) → Spelled (rule r) ts a → Spelled (the r) ts a
+  weaken-the : (r : Rule) (ts : List ValuedToken) (a : Answer (Val (sort r))) → Spelled (rule r) ts a → Spelled (nonterminal r) ts a
   weaken-the r ts None k = tt
-  weaken-the r ts (Some p) k = (k.0, k.1, the' k.2)
+  weaken-the r ts (Some p) k = (k.0, k.1, nonterminal' k.2)
 
-  weaken-placed : {s : Sort} (g : G s) (x : Val s) (t : ValuedToken) (xs us ys : List ValuedToken) → t ∷ (xs ++ us) ≡ ys ++ us → Spells rule _ g x ys → Spelled (placed g) (t ∷ (xs ++ us)) (Some ((t.position, x), us))
+  weaken-placed : {s : Sort} (g : Part s) (x : Val s) (t : ValuedToken) (xs us ys : List ValuedToken) → t ∷ (xs ++ us) ≡ ys ++ us → Spells rule _ g x ys → Spelled (placed g) (t ∷ (xs ++ us)) (Some ((t.position, x), us))
   weaken-placed g x t xs us [] e s =
       let l : length (t ∷ (xs ++ us)) ≡ length us = ap length e in
       absurd (omega (arith, length-append xs us))
@@ -47,8 +47,8 @@ module _ (rule : (r : Rule) → G (sort r)) where
       subst P same (y ∷ ys, e, placed' s)
 
   mutual
-    pub spelled : {s : Sort} {g : G s} {ts : List ValuedToken} {r : Answer (Val s)} → Reads rule s g ts r → Spelled g ts r
-    spelled (hit {t = t} e) = (t ∷ [], refl, one' e)
+    pub spelled : {s : Sort} {g : Part s} {ts : List ValuedToken} {r : Answer (Val s)} → Reads rule s g ts r → Spelled g ts r
+    spelled (hit {t = t} e) = (t ∷ [], refl, terminal' e)
     spelled (miss e) = tt
     spelled over = tt
     spelled free = ([], refl, empty')
@@ -71,28 +71,28 @@ module _ (rule : (r : Rule) → G (sort r)) where
     spelled (placed-some {g = g} {x = x} {t = t} xs {us = us} d) = let k = spelled d in weaken-placed g x t xs us k.0 k.1 k.2
     spelled (itself {r = r} {ts = ts} {a = a} d) = weaken-the r ts a (spelled d)
 
-    spelled-rounds : {a b : Sort} {f : Val a → Val b → Val a} {h : G b} {x : Val a} {us : List ValuedToken} {p : Val a × List ValuedToken} → Rounds rule a b f h x us p
-        → {g : G a} (ts xs : List ValuedToken) → ts ≡ xs ++ us → Spells rule a (fold f g h) x xs → Spelled (fold f g h) ts (Some p)
+    spelled-rounds : {a b : Sort} {f : Val a → Val b → Val a} {h : Part b} {x : Val a} {us : List ValuedToken} {p : Val a × List ValuedToken} → Rounds rule a b f h x us p
+        → {g : Part a} (ts xs : List ValuedToken) → ts ≡ xs ++ us → Spells rule a (fold f g h) x xs → Spelled (fold f g h) ts (Some p)
     spelled-rounds (stop d) ts xs e s = (xs, e, s)
     spelled-rounds (more {us = us} d r) ts xs e s =
         let k = spelled d in
         spelled-rounds r ts (xs ++ k.0) (e ∙ ap (λ z. xs ++ z) k.1 ∙ sym (append_assoc xs k.0 us)) (round' s k.2)
 
-  abbrev pub Within : {s : Sort} → G s → List ValuedToken → Answer (Val s) → Type 0
+  abbrev pub Within : {s : Sort} → Part s → List ValuedToken → Answer (Val s) → Type 0
   Within g ts None = Unit {0}
   Within g ts (Some p) = length p.1 + cost g ≤ length ts
 
-  within-alt : {s : Sort} (g h : G s) (ts : List ValuedToken) (r : Answer (Val s)) → Within h ts r → Within (alt g h) ts r
+  within-alt : {s : Sort} (g h : Part s) (ts : List ValuedToken) (r : Answer (Val s)) → Within h ts r → Within (alt g h) ts r
   within-alt g h ts None k = tt
   within-alt g h ts (Some p) k = omega arith
 
-  within-the : (r : Rule) (ts : List ValuedToken) (a : Answer (Val (sort r))) → 1 ≤ cost (rule r) → Within (rule r) ts a → Within (the r) ts a
+  within-the : (r : Rule) (ts : List ValuedToken) (a : Answer (Val (sort r))) → 1 ≤ cost (rule r) → Within (rule r) ts a → Within (nonterminal r) ts a
   within-the r ts None c k = tt
   within-the r ts (Some p) c k = omega arith
 
   module _ (rank : Rule → ℕ) (ranks : ℕ) (sound : Sound rule rank ranks) where
     mutual
-      pub shorter : {s : Sort} {g : G s} {ts : List ValuedToken} {r : Answer (Val s)} → Reads rule s g ts r → Within g ts r
+      pub shorter : {s : Sort} {g : Part s} {ts : List ValuedToken} {r : Answer (Val s)} → Reads rule s g ts r → Within g ts r
       shorter (hit e) = omega arith
       shorter (miss e) = tt
       shorter over = tt
@@ -113,7 +113,7 @@ module _ (rule : (r : Rule) → G (sort r)) where
       shorter (placed-some xs d) = shorter d
       shorter (itself {r = r} {ts = ts} {a = a} d) = within-the r ts a (sound.costs r) (shorter d)
 
-      shorter-rounds : {a b : Sort} {f : Val a → Val b → Val a} {h : G b} {x : Val a} {us : List ValuedToken} {p : Val a × List ValuedToken} → Rounds rule a b f h x us p → length p.1 ≤ length us
+      shorter-rounds : {a b : Sort} {f : Val a → Val b → Val a} {h : Part b} {x : Val a} {us : List ValuedToken} {p : Val a × List ValuedToken} → Rounds rule a b f h x us p → length p.1 ≤ length us
       shorter-rounds (stop d) = omega arith
       shorter-rounds (more d r) = let k = shorter d in let l = shorter-rounds r in omega arith
 
@@ -123,66 +123,66 @@ module _ (rule : (r : Rule) → G (sort r)) where
 
     -- ---- the computed tree is a reading
 
-    reads-one : {a : Sort} (p : ValuedToken → Option (Val a)) (ts : List ValuedToken) → Reads rule a (one p) ts (first p ts)
+    reads-one : {a : Sort} (p : ValuedToken → Option (Val a)) (ts : List ValuedToken) → Reads rule a (terminal p) ts (first p ts)
     reads-one p [] = over
     reads-one {a = a} p (t ∷ ts) = go (p t) refl
       where
-        go : (r : Option (Val a)) → p t ≡ r → Reads rule a (one p) (t ∷ ts) (before_rest r ts)
+        go : (r : Option (Val a)) → p t ≡ r → Reads rule a (terminal p) (t ∷ ts) (before_rest r ts)
         go None e = miss e
         go (Some x) e = hit e
 
-    seq-last : {a b : Sort} (g : G a) (h : G b) (ts : List ValuedToken) (p : Val a × List ValuedToken) (o : Answer (Val b)) → Reads rule a g ts (Some p) → Reads rule b h p.1 o
+    seq-last : {a b : Sort} (g : Part a) (h : Part b) (ts : List ValuedToken) (p : Val a × List ValuedToken) (o : Answer (Val b)) → Reads rule a g ts (Some p) → Reads rule b h p.1 o
         → Reads rule (both a b) (seq g h) ts (and_then o (λ y vs. Some ((p.0, y), vs)))
     seq-last g h ts p None d e = seq-second d e
     seq-last g h ts p (Some w) d e = seq-some d e
 
-    seq-step : {a b : Sort} (g : G a) (h : G b) (ts : List ValuedToken) (q : List ValuedToken → Answer (Val b)) (r : Answer (Val a)) → Reads rule a g ts r
+    seq-step : {a b : Sort} (g : Part a) (h : Part b) (ts : List ValuedToken) (q : List ValuedToken → Answer (Val b)) (r : Answer (Val a)) → Reads rule a g ts r
         → ((us : List ValuedToken) → length us + cost g ≤ length ts → Reads rule b h us (q us))
         → Reads rule (both a b) (seq g h) ts (and_then r (λ x us. and_then (q us) (λ y vs. Some ((x, y), vs))))
     seq-step g h ts q None d f = seq-first d
     seq-step g h ts q (Some p) d f = seq-last g h ts p (q p.1) d (f p.1 (shorter d))
 
-    alt-step : {a : Sort} (g h : G a) (ts : List ValuedToken) (r q : Answer (Val a)) → Reads rule a g ts r → Reads rule a h ts q → Reads rule a (alt g h) ts (or_else r q)
+    alt-step : {a : Sort} (g h : Part a) (ts : List ValuedToken) (r q : Answer (Val a)) → Reads rule a g ts r → Reads rule a h ts q → Reads rule a (alt g h) ts (or_else r q)
     alt-step g h ts None q d e = alt-second d e
     alt-step g h ts (Some p) q d e = alt-first d
 
-    act-step : {a b : Sort} (f : Val a → Val b) (g : G a) (ts : List ValuedToken) (r : Answer (Val a)) → Reads rule a g ts r → Reads rule b (act f g) ts (and_then r (λ x us. Some (f x, us)))
+    act-step : {a b : Sort} (f : Val a → Val b) (g : Part a) (ts : List ValuedToken) (r : Answer (Val a)) → Reads rule a g ts r → Reads rule b (act f g) ts (and_then r (λ x us. Some (f x, us)))
     act-step f g ts None d = act-none d
     act-step f g ts (Some p) d = act-some d
 
-    when-last : {a b : Sort} (f : Val a → Option (Val b)) (g : G a) (ts : List ValuedToken) (p : Val a × List ValuedToken) (o : Option (Val b)) → f p.0 ≡ o → Reads rule a g ts (Some p) → Reads rule b (when f g) ts (before_rest o p.1)
+    when-last : {a b : Sort} (f : Val a → Option (Val b)) (g : Part a) (ts : List ValuedToken) (p : Val a × List ValuedToken) (o : Option (Val b)) → f p.0 ≡ o → Reads rule a g ts (Some p) → Reads rule b (when f g) ts (before_rest o p.1)
     when-last f g ts p None e d = when-broken e d
     when-last f g ts p (Some y) e d = when-some e d
 
-    when-step : {a b : Sort} (f : Val a → Option (Val b)) (g : G a) (ts : List ValuedToken) (r : Answer (Val a)) → Reads rule a g ts r → Reads rule b (when f g) ts (and_then r (λ x us. before_rest (f x) us))
+    when-step : {a b : Sort} (f : Val a → Option (Val b)) (g : Part a) (ts : List ValuedToken) (r : Answer (Val a)) → Reads rule a g ts r → Reads rule b (when f g) ts (and_then r (λ x us. before_rest (f x) us))
     when-step f g ts None d = when-none d
     when-step f g ts (Some p) d = when-last f g ts p (f p.0) refl d
 
-    placed-last : {a : Sort} (g : G a) (t : ValuedToken) (ts : List ValuedToken) (p : Val a × List ValuedToken) (xs : List ValuedToken) → ts ≡ xs ++ p.1 → Reads rule a g (t ∷ ts) (Some p) → Reads rule (both sorts.position a) (placed g) (t ∷ ts) (Some ((t.position, p.0), p.1))
+    placed-last : {a : Sort} (g : Part a) (t : ValuedToken) (ts : List ValuedToken) (p : Val a × List ValuedToken) (xs : List ValuedToken) → ts ≡ xs ++ p.1 → Reads rule a g (t ∷ ts) (Some p) → Reads rule (both sorts.position a) (placed g) (t ∷ ts) (Some ((t.position, p.0), p.1))
     placed-last {a = a} g t ts p xs e d =
         let P : List ValuedToken → Type 0 = λ z. Reads rule a g (t ∷ z) (Some p) in
         let Q : List ValuedToken → Type 0 = λ z. Reads rule (both sorts.position a) (placed g) (t ∷ z) (Some ((t.position, p.0), p.1)) in
         subst Q (sym e) (placed-some xs (subst P e d))
 
-    placed-front : {a : Sort} (g : G a) (t : ValuedToken) (ts : List ValuedToken) (p : Val a × List ValuedToken) (ys : List ValuedToken) → t ∷ ts ≡ ys ++ p.1 → length p.1 < length (t ∷ ts) → Reads rule a g (t ∷ ts) (Some p) → Reads rule (both sorts.position a) (placed g) (t ∷ ts) (Some ((t.position, p.0), p.1))
+    placed-front : {a : Sort} (g : Part a) (t : ValuedToken) (ts : List ValuedToken) (p : Val a × List ValuedToken) (ys : List ValuedToken) → t ∷ ts ≡ ys ++ p.1 → length p.1 < length (t ∷ ts) → Reads rule a g (t ∷ ts) (Some p) → Reads rule (both sorts.position a) (placed g) (t ∷ ts) (Some ((t.position, p.0), p.1))
     placed-front g t ts p [] e l d = let same : length (t ∷ ts) ≡ length p.1 = ap length e in absurd (omega arith)
     placed-front g t ts p (y ∷ ys) e l d = placed-last g t ts p ys (ap tail_of e) d
 
-    placed-step : {a : Sort} (g : G a) (ts : List ValuedToken) (r : Answer (Val a)) → Reads rule a g ts r → 1 ≤ cost g → Reads rule (both sorts.position a) (placed g) ts (located ts r)
+    placed-step : {a : Sort} (g : Part a) (ts : List ValuedToken) (r : Answer (Val a)) → Reads rule a g ts r → 1 ≤ cost g → Reads rule (both sorts.position a) (placed g) ts (located ts r)
     placed-step g [] None d c = placed-none d
     placed-step g [] (Some p) d c = let k = shorter d in absurd (omega arith)
     placed-step g (t ∷ ts) None d c = placed-none d
     placed-step g (t ∷ ts) (Some p) d c = let k = shorter d in let w = spelled d in placed-front g t ts p w.0 w.1 (omega arith) d
 
-    abbrev RoundsOf : (a : Sort) {b : Sort} → (Val a → Val b → Val a) → G b → Val a → List ValuedToken → Answer (Val a) → Type 0
+    abbrev RoundsOf : (a : Sort) {b : Sort} → (Val a → Val b → Val a) → Part b → Val a → List ValuedToken → Answer (Val a) → Type 0
     RoundsOf a f h x us None = ⊥
     RoundsOf a f h x us (Some p) = Rounds rule _ _ f h x us p
 
-    further : (a : Sort) {b : Sort} (f : Val a → Val b → Val a) (h : G b) (x : Val a) (y : Val b) (us vs : List ValuedToken) (o : Answer (Val a)) → Reads rule b h us (Some (y, vs)) → RoundsOf a f h (f x y) vs o → RoundsOf a f h x us o
+    further : (a : Sort) {b : Sort} (f : Val a → Val b → Val a) (h : Part b) (x : Val a) (y : Val b) (us vs : List ValuedToken) (o : Answer (Val a)) → Reads rule b h us (Some (y, vs)) → RoundsOf a f h (f x y) vs o → RoundsOf a f h x us o
     further a f h x y us vs None d r = r
     further a f h x y us vs (Some p) d r = more d r
 
-    module _ (a b : Sort) (f : Val a → Val b → Val a) (h : G b) (q : List ValuedToken → Answer (Val b)) (top : ℕ)
+    module _ (a b : Sort) (f : Val a → Val b → Val a) (h : Part b) (q : List ValuedToken → Answer (Val b)) (top : ℕ)
         (each : (us : List ValuedToken) → length us ≤ top → Reads rule b h us (q us)) (some : 1 ≤ cost h) where
       rounds-step : (n : ℕ) (x : Val a) (us : List ValuedToken) → length us ≤ n → length us ≤ top → RoundsOf a f h x us (rounds f q n x us)
       unfolding rounds
@@ -198,11 +198,11 @@ module _ (rule : (r : Rule) → G (sort r)) where
           go None d next = stop d
           go (Some p) d next = let k = shorter d in further a f h x p.0 us p.1 (rounds f q n (f x p.0) p.1) d (next p.0 p.1 (omega arith))
 
-    fold-last : {a b : Sort} (f : Val a → Val b → Val a) (g : G a) (h : G b) (ts : List ValuedToken) (p : Val a × List ValuedToken) (o : Answer (Val a)) → Reads rule a g ts (Some p) → RoundsOf a f h p.0 p.1 o → Reads rule a (fold f g h) ts o
+    fold-last : {a b : Sort} (f : Val a → Val b → Val a) (g : Part a) (h : Part b) (ts : List ValuedToken) (p : Val a × List ValuedToken) (o : Answer (Val a)) → Reads rule a g ts (Some p) → RoundsOf a f h p.0 p.1 o → Reads rule a (fold f g h) ts o
     fold-last f g h ts p None d r = absurd r
     fold-last f g h ts p (Some w) d r = fold-some d r
 
-    fold-step : {a b : Sort} (f : Val a → Val b → Val a) (g : G a) (h : G b) (ts : List ValuedToken) (q : List ValuedToken → Answer (Val b)) (r : Answer (Val a)) → Reads rule a g ts r → 1 ≤ cost h
+    fold-step : {a b : Sort} (f : Val a → Val b → Val a) (g : Part a) (h : Part b) (ts : List ValuedToken) (q : List ValuedToken → Answer (Val b)) (r : Answer (Val a)) → Reads rule a g ts r → 1 ≤ cost h
         → ((us : List ValuedToken) → length us + cost g ≤ length ts → Reads rule b h us (q us))
         → Reads rule a (fold f g h) ts (and_then r (λ x us. rounds f q (length us) x us))
     fold-step f g h ts q None d c e = fold-none d
@@ -215,10 +215,10 @@ module _ (rule : (r : Rule) → G (sort r)) where
     and_split false b e = (cc, cc)
 
     abbrev pub Good : Readers → ℕ → Type 0
-    Good k n = (r : Rule) (us : List ValuedToken) → length us * ranks + rank r < n → Reads rule _ (the r) us (k r us)
+    Good k n = (r : Rule) (us : List ValuedToken) → length us * ranks + rank r < n → Reads rule _ (nonterminal r) us (k r us)
 
-    pub step-reads : (k : Readers) (n : ℕ) → Good k n → {s : Sort} (g : G s) (m : ℕ) (ts : List ValuedToken) → safe rank ranks m g ≡ true → length ts * ranks + m ≤ n → Reads rule s g ts (step k g ts)
-    step-reads k n good (one p) m ts s b = reads-one p ts
+    pub step-reads : (k : Readers) (n : ℕ) → Good k n → {s : Sort} (g : Part s) (m : ℕ) (ts : List ValuedToken) → safe rank ranks m g ≡ true → length ts * ranks + m ≤ n → Reads rule s g ts (step k g ts)
+    step-reads k n good (terminal p) m ts s b = reads-one p ts
     step-reads k n good empty m ts s b = free
     step-reads k n good (seq g h) m ts s b =
         let t = and_split (safe rank ranks m g) (safe rank ranks (rank_after ranks (cost g) m) h) s in
@@ -238,7 +238,7 @@ module _ (rule : (r : Rule) → G (sort r)) where
     step-reads k n good (placed g) m ts s b =
         let t = and_split (safe rank ranks m g) (nat_le 1 (cost g)) s in
         placed-step g ts (step k g ts) (step-reads k n good g m ts t.0 b) (le_true 1 (cost g) t.1)
-    step-reads k n good (the r) m ts s b = let l : rank r < m = lt_true (rank r) m s in good r ts (omega arith)
+    step-reads k n good (nonterminal r) m ts s b = let l : rank r < m = lt_true (rank r) m s in good r ts (omega arith)
 
     pub computed : (d : ℕ) → Good (run rule d) d
     unfolding run
@@ -248,7 +248,7 @@ module _ (rule : (r : Rule) → G (sort r)) where
     -- ---- and the only one
 
     abbrev pub Only : Readers → ℕ → Type 0
-    Only k n = (r : Rule) (us : List ValuedToken) (a : Answer (Val (sort r))) → length us * ranks + rank r < n → Reads rule _ (the r) us a → a ≡ k r us
+    Only k n = (r : Rule) (us : List ValuedToken) (a : Answer (Val (sort r))) → length us * ranks + rank r < n → Reads rule _ (nonterminal r) us a → a ≡ k r us
 
     rounds-none : {A B : Type 0} (f : A → B → A) (q : List ValuedToken → Answer B) (n : ℕ) (x : A) (us : List ValuedToken) → None ≡ q us → Some (x, us) ≡ rounds f q n x us
     unfolding rounds
@@ -263,13 +263,13 @@ module _ (rule : (r : Rule) → G (sort r)) where
     located-none [] = refl
     located-none (t ∷ ts) = refl
 
-    -- two parts, of which the first reads
-    both-agree : {a b : Sort} {x : Val a} {us : List ValuedToken} {r : Answer (Val b)} (k : Readers) (g : G a) (h : G b) (ts : List ValuedToken) → Some (x, us) ≡ step k g ts → r ≡ step k h us → and_then r (λ y vs. Some ((x, y), vs)) ≡ step k (seq g h) ts
+    -- two parts, if the first one reads
+    both-agree : {a b : Sort} {x : Val a} {us : List ValuedToken} {r : Answer (Val b)} (k : Readers) (g : Part a) (h : Part b) (ts : List ValuedToken) → Some (x, us) ≡ step k g ts → r ≡ step k h us → and_then r (λ y vs. Some ((x, y), vs)) ≡ step k (seq g h) ts
     both-agree k g h ts i j = rw (← i) (rw (← j) refl)
 
     module _ (k : Readers) (n : ℕ) (only : Only k n) where
       mutual
-        pub agrees : {s : Sort} {g : G s} {ts : List ValuedToken} {r : Answer (Val s)} → Reads rule s g ts r → (m : ℕ) → safe rank ranks m g ≡ true → length ts * ranks + m ≤ n → r ≡ step k g ts
+        pub agrees : {s : Sort} {g : Part s} {ts : List ValuedToken} {r : Answer (Val s)} → Reads rule s g ts r → (m : ℕ) → safe rank ranks m g ≡ true → length ts * ranks + m ≤ n → r ≡ step k g ts
         agrees (hit e) m s b = rw e refl
         agrees (miss e) m s b = rw e refl
         agrees over m s b = refl
@@ -311,7 +311,7 @@ module _ (rule : (r : Rule) → G (sort r)) where
             ap (located (t ∷ (xs ++ us))) (agrees d m u.0 b)
         agrees (itself {r = r} {ts = ts} {a = a} d) m s b = let l : rank r < m = lt_true (rank r) m s in only r ts a (omega arith) (itself d)
 
-        agrees-rounds : {a b : Sort} {f : Val a → Val b → Val a} {h : G b} {x : Val a} {us : List ValuedToken} {p : Val a × List ValuedToken} → Rounds rule a b f h x us p
+        agrees-rounds : {a b : Sort} {f : Val a → Val b → Val a} {h : Part b} {x : Val a} {us : List ValuedToken} {p : Val a × List ValuedToken} → Rounds rule a b f h x us p
             → (m : ℕ) → safe rank ranks m h ≡ true → length us * ranks + m ≤ n → 1 ≤ cost h → (fuel : ℕ) → length us ≤ fuel → Some p ≡ rounds f (step k h) fuel x us
         agrees-rounds (stop {f = f} {h = h} {x = x} {ts = ts} d) m s b c fuel l = rounds-none f (step k h) fuel x ts (agrees d m s b)
         agrees-rounds (more {ts = ts} d r) m s b c zero l = let w = shorter d in absurd (omega arith)
@@ -320,9 +320,9 @@ module _ (rule : (r : Rule) → G (sort r)) where
             let v = mul-le-mul_right {m = length us} {n = length ts} ranks (omega arith) in
             agrees-rounds r m s (omega arith) c fuel (omega arith) ∙ rounds-some f (step k h) fuel x ts (y, us) (agrees d m s b)
 
-    abbrev Inside : {s : Sort} → G s → List ValuedToken → Answer (Val s) → Type 0
-    Inside (the r) ts a = Reads rule _ (rule r) ts a
-    Inside (one p) ts a = Unit {0}
+    abbrev Inside : {s : Sort} → Part s → List ValuedToken → Answer (Val s) → Type 0
+    Inside (nonterminal r) ts a = Reads rule _ (rule r) ts a
+    Inside (terminal p) ts a = Unit {0}
     Inside empty ts a = Unit {0}
     Inside (seq g h) ts a = Unit {0}
     Inside (alt g h) ts a = Unit {0}
@@ -331,7 +331,7 @@ module _ (rule : (r : Rule) → G (sort r)) where
     Inside (when f g) ts a = Unit {0}
     Inside (placed g) ts a = Unit {0}
 
-    opened : {s : Sort} {g : G s} {ts : List ValuedToken} {a : Answer (Val s)} → Reads rule s g ts a → Inside g ts a
+    opened : {s : Sort} {g : Part s} {ts : List ValuedToken} {a : Answer (Val s)} → Reads rule s g ts a → Inside g ts a
     opened (hit e) = tt
     opened (miss e) = tt
     opened over = tt

@@ -16,9 +16,9 @@ use Rattle.star_tree.specs.declared.tree.Clauses.{Clauses}
 use Rattle.star_tree.specs.declared.tree.Clause.{Clause}
 use Rattle.star_syntax.specs.declared.level.Suffix.TheVariants as suffixes
 use Rattle.star_syntax.specs.Sorts as sorts
-use Rattle.star_syntax.specs.Grammar.{level, the, Reads, hit, miss, seq-first, act-none, alt-first, stop, more}
+use Rattle.star_syntax.specs.Grammar.{level, nonterminal, Reads, hit, miss, seq-first, act-none, alt-first, stop, more}
 use Rattle.star_syntax.specs.Keeps.{arguments_in_order, parameters_in_order}
-use Rattle.star_syntax.specs.Expressions.{next_test, atom, operand, suffix, unary, binary_operator, bit_or, comparator, next_negation, negation, conjunction, next_conjunction, disjunction, same_sign, same_keyword, all_clauses, denied, lambda, opt, a_test, entry, next_entry as following_entry, argument, next_argument as following_argument, given as arguments_given, parameter, next_parameter as following_parameter, lambda_parameters, for_clause, next_clause as following_clause, stop_and_stride, in_brackets}
+use Rattle.star_syntax.specs.Expressions.{next_test, atom, operand, suffix, unary, binary_operator, bit_or, comparator, next_negation, negation, conjunction, next_conjunction, disjunction, same_sign, same_keyword, all_clauses, not_operand, lambda, opt, a_test, entry, next_entry as following_entry, argument, next_argument as following_argument, optional_arguments as arguments_given, parameter, next_parameter as following_parameter, lambda_parameters, for_clause, next_clause as following_clause, stop_and_stride, in_brackets}
 use Rattle.star_syntax.specs.Language.{rule}
 use Rattle.star_syntax.specs.Written.{mark, spelt, right-paren, right-bracket, right-brace, comma, colon, for', before, Written, a-name, an-int, a-text, a-sign, a-denial, a-binary, a-comparison, an-absence, an-and, an-or, a-conditional, an-attribute, an-index, an-empty-tuple, a-tuple, an-empty-list, a-list, an-empty-dict, a-dict, a-list-comprehension, a-dict-comprehension, a-call, a-slice, a-lambda, Enclosed, enclosed, Further, no-further, one-further, Optional, left-out, put, OneEntry, an-entry, FurtherEntries, no-entry, next-entry, OneArgument, positional, by-name, with-star, with-two-stars, FurtherArguments, no-argument, next-argument, Arguments, none-given, some-given, OneParameter, plain, default, starred, bare-star, twice-starred, FurtherParameters, no-parameter, next-parameter, Parameters, none-taken, some-taken, ForPart, for-each, OneClause, each, only-if, FurtherClauses, no-clause, next-clause, AllClauses, clauses-from, ReadsBack}
 use Rattle.star_syntax.proofs.Quiet.{Quiet, quiet, comparator-none, and-none, or-none, test-none}
@@ -69,7 +69,7 @@ module _ {x : Expression} {ts us : List ValuedToken} (f : Front ts) (d : Reads r
         disjunction-at : Reads rule _ next_conjunction us None → Reads rule _ disjunction ts (Some (x, us))
         disjunction-at b = disjunction-of conjunction-at b
 
--- words with which the part before a clause or a bracket does not go on
+-- words that do not continue the part before a clause or a bracket
 record QuietPart (ts : List ValuedToken) : Type 0 where
   suffix' : Reads rule _ suffix ts None
   binary' : (n : ℕ) → Reads rule _ (binary_operator n) ts None
@@ -125,8 +125,8 @@ unnamed-of (enclosed {p = p} {ts = ts} w) = unnamed p ts
 front-brace : (p : Position) (ts : List ValuedToken) → Front (mark p s.LeftBrace ∷ ts)
 front-brace p ts = front p (word.Punctuator s.LeftBrace) ts refl refl refl
 
-front-not : (p : Position) (sign : Punctuator) (ts : List ValuedToken) → Reads rule _ denied (mark p sign ∷ ts) None × Reads rule _ lambda (mark p sign ∷ ts) None
-unfolding denied lambda
+front-not : (p : Position) (sign : Punctuator) (ts : List ValuedToken) → Reads rule _ not_operand (mark p sign ∷ ts) None × Reads rule _ lambda (mark p sign ∷ ts) None
+unfolding not_operand lambda
 front-not p sign ts = (act-none (act-none (seq-first (miss refl))), act-none (seq-first (miss refl)))
 
 unbound-not : (p : Position) (ts : List ValuedToken) → Reads rule _ lambda (spelt p k.Not ∷ ts) None
@@ -141,7 +141,7 @@ no-more-tests found us n =
     let P : List Expression → Type 0 = λ z. Tests found us z us in
     subst P (sym (append-nil found)) (stop n)
 
-one-more-test : {ts vs us : List ValuedToken} (found : List Expression) (x : Expression) (xs : List Expression) (p : Position) → Reads rule _ (the (level levels.Test)) ts (Some (x, vs)) → Tests (found ++ x ∷ []) vs ((found ++ x ∷ []) ++ xs) us
+one-more-test : {ts vs us : List ValuedToken} (found : List Expression) (x : Expression) (xs : List Expression) (p : Position) → Reads rule _ (nonterminal (level levels.Test)) ts (Some (x, vs)) → Tests (found ++ x ∷ []) vs ((found ++ x ∷ []) ++ xs) us
     → Tests found (mark p s.Comma ∷ ts) (found ++ x ∷ xs) us
 one-more-test {ts = ts} {us = us} found x xs p d f =
     let P : List Expression → Type 0 = λ z. Tests found (mark p s.Comma ∷ ts) z us in
@@ -150,7 +150,7 @@ one-more-test {ts = ts} {us = us} found x xs p d f =
 mutual
   unfolding operand atom same_sign same_keyword
 
-  law : {x : Expression} {ts us : List ValuedToken} → Written x ts us → Quiet us → Reads rule _ (the (level levels.Test)) ts (Some (x, us))
+  law : {x : Expression} {ts us : List ValuedToken} → Written x ts us → Quiet us → Reads rule _ (nonterminal (level levels.Test)) ts (Some (x, us))
   law (a-name {x = x} {us = us}) q = from-operand (front x.position (word.Name x.text) us refl refl refl) q (alt-first (hit refl))
   law (an-int {p = p} {value = value} {us = us}) q = from-operand (front p (word.Int value) us refl refl refl) q (alt-first (hit refl))
   law (a-text {p = p} {text = text} {us = us}) q = from-operand (front p (word.Text text) us refl refl refl) q (alt-first (hit refl))
@@ -214,7 +214,7 @@ mutual
   parts (no-further {us = us}) found q n = no-more-tests found us n
   parts (one-further {p = p} {x = x} {xs = xs} i js) found q n = one-more-test found x xs p (from-operand (front-of i) (further-front Quiet before-comma js q) (part i)) (parts js (found ++ x ∷ []) q n)
 
-  optional-law : {a : Option Expression} {ts us : List ValuedToken} → Optional a ts us → Quiet us → Reads rule _ (the (level levels.Test)) us None → Reads rule _ (opt a_test) ts (Some (a, us))
+  optional-law : {a : Option Expression} {ts us : List ValuedToken} → Optional a ts us → Quiet us → Reads rule _ (nonterminal (level levels.Test)) us None → Reads rule _ (opt a_test) ts (Some (a, us))
   optional-law left-out q n = left-out-of n
   optional-law (put i) q n = put-of (from-operand (front-of i) q (part i))
 

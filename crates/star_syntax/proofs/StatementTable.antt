@@ -1,33 +1,33 @@
 -- Statements come back to themselves only after a leaf or at a lower rank, and their rounds take leaves.
 use Rattle.std.proofs.Common.{◌≡◌, ℕ, ◌≤◌, true, refl, arith}
 use Rattle.star_syntax.proofs.Soundness.{cost, safe}
-use Rattle.star_syntax.specs.Expressions.{tests, list_of_tests, next_test, targets, list_of_primaries, primaries, next_primary, parameters_in_parentheses, taken, ordered_parameters, list_of_parameters, next_parameter, parameter, named_parameter, star, star_star, default}
-use Rattle.star_syntax.specs.Statements.{returned, local, loaded, next_loaded, all_loaded, loads, load, assigning, right_side, told, keyword_form, small_form, small, next_small, smalls, simple, body, block, suite, colon_suite, arm, next_arm, first_arm, arms, otherwise, condition, iteration, definition, compound_form, compound, one_statement, statements, file}
+use Rattle.star_syntax.specs.Expressions.{tests, list_of_tests, next_test, targets, list_of_primaries, primaries, next_primary, parameters_in_parentheses, optional_parameters, ordered_parameters, list_of_parameters, next_parameter, parameter, named_parameter, star, star_star, default}
+use Rattle.star_syntax.specs.Statements.{returned, local, loaded, next_loaded, all_loaded, loads, load, assigning, right_side, expression_or_assignment, keyword_form, small_form, small, next_small, small_statements, simple, body, block, suite, colon_suite, arm, next_arm, first_arm, arms, otherwise, condition, iteration, definition, compound_form, compound, one_statement, statements, file}
 use Rattle.star_syntax.proofs.Ranks.{rank}
 
 small-cost : cost small ≡ 1
-unfolding small small_form returned keyword_form load loads all_loaded next_loaded loaded local told right_side assigning tests list_of_tests
+unfolding small small_form returned keyword_form load loads all_loaded next_loaded loaded local expression_or_assignment right_side assigning tests list_of_tests
 small-cost = refl
 
 -- at the front of a statement, and after a leaf
 first-safe : safe rank 2 1 small ≡ true
-unfolding small small_form returned keyword_form load loads all_loaded next_loaded loaded local told right_side assigning tests list_of_tests next_test
+unfolding small small_form returned keyword_form load loads all_loaded next_loaded loaded local expression_or_assignment right_side assigning tests list_of_tests next_test
 first-safe = refl
 
 small-safe : safe rank 2 2 small ≡ true
-unfolding small small_form returned keyword_form load loads all_loaded next_loaded loaded local told right_side assigning tests list_of_tests next_test
+unfolding small small_form returned keyword_form load loads all_loaded next_loaded loaded local expression_or_assignment right_side assigning tests list_of_tests next_test
 small-safe = refl
 
 simple-cost : cost simple ≡ 2
-unfolding simple smalls
+unfolding simple small_statements
 simple-cost = simp small-cost
 
 line-safe : safe rank 2 1 simple ≡ true
-unfolding simple smalls next_small
+unfolding simple small_statements next_small
 line-safe = simp (first-safe, small-safe, small-cost)
 
 simple-safe : safe rank 2 2 simple ≡ true
-unfolding simple smalls next_small
+unfolding simple small_statements next_small
 simple-safe = simp (small-safe, small-cost)
 
 suite-cost : cost suite ≡ 2
@@ -55,7 +55,7 @@ unfolding iteration colon_suite targets primaries list_of_primaries next_primary
 iteration-safe m = suite-safe
 
 definition-safe : (m : ℕ) → safe rank 2 m definition ≡ true
-unfolding definition colon_suite parameters_in_parentheses taken ordered_parameters list_of_parameters next_parameter parameter named_parameter star star_star default
+unfolding definition colon_suite parameters_in_parentheses optional_parameters ordered_parameters list_of_parameters next_parameter parameter named_parameter star star_star default
 definition-safe m = suite-safe
 
 condition-cost : cost condition ≡ 5
@@ -67,7 +67,7 @@ unfolding iteration colon_suite targets primaries list_of_primaries tests list_o
 iteration-cost = simp suite-cost
 
 definition-cost : cost definition ≡ 7
-unfolding definition colon_suite parameters_in_parentheses taken ordered_parameters list_of_parameters parameter named_parameter star star_star default
+unfolding definition colon_suite parameters_in_parentheses optional_parameters ordered_parameters list_of_parameters parameter named_parameter star star_star default
 definition-cost = simp suite-cost
 
 compound-cost : cost compound ≡ 5

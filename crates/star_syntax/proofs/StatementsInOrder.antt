@@ -18,10 +18,10 @@ use Rattle.star_tree.specs.declared.tree.Arm.{Arm, roll-Arm}
 use Rattle.star_tree.specs.declared.tree.Statement.{Statement, roll-Statement}
 use Rattle.star_syntax.specs.Sorts.{Val, both, maybe, list}
 use Rattle.star_syntax.specs.Sorts as sorts
-use Rattle.star_syntax.specs.Grammar.{level, statement, the, Readers}
+use Rattle.star_syntax.specs.Grammar.{level, statement, nonterminal, Readers}
 use Rattle.star_syntax.specs.Keeps.{parameters_in_order, target_of, augmented_of}
 use Rattle.star_syntax.specs.InOrder.{in_order, parameter_in_order, target_in_order, every, value_in_order, form_step, arm_step, statement_step, statement_in_order}
-use Rattle.star_syntax.specs.Statements.{assign_of, augment_of, told_with, told_of, if_of, returned, load, right_side, told, keyword_form, small_form, small, next_small, smalls, simple, body, block, suite, colon_suite, arm, next_arm, first_arm, arms, otherwise, condition, iteration, definition, compound_form, compound, one_statement, statements, file}
+use Rattle.star_syntax.specs.Statements.{assign_of, augment_of, assignment_of, expression_or_assignment_of, if_of, returned, load, right_side, expression_or_assignment, keyword_form, small_form, small, next_small, small_statements, simple, body, block, suite, colon_suite, arm, next_arm, first_arm, arms, otherwise, condition, iteration, definition, compound_form, compound, one_statement, statements, file}
 use Rattle.star_syntax.proofs.Kept.{OfExpression, OfTarget, Taken, true-both}
 use Rattle.star_syntax.proofs.Makes.{Makes, Each, Maybe, each-append, nothing-found, same_some, makes-any, makes-seq, makes-alt, makes-act, makes-when, makes-placed, makes-fold, makes-after, makes-before, makes-opt, makes-list}
 use Rattle.star_syntax.proofs.TargetsInOrder.{target-kept, augmented-kept}
@@ -110,11 +110,11 @@ augmented : (o : Option Target) (op : BinaryOperator) (x : Expression) (y : Form
 augmented None op x y k l e = absurd (nothing-found y e)
 augmented (Some t) op x y k l e = subst OfForm (same_some (f.Augment t op x) y e) (an-augmentation t op x (k t refl) l)
 
-told-with : (left : Expression) (o : Option BinaryOperator) (x : Expression) (y : Form) → OfExpression left → OfExpression x → told_with left o x ≡ Some y → OfForm y
+told-with : (left : Expression) (o : Option BinaryOperator) (x : Expression) (y : Form) → OfExpression left → OfExpression x → assignment_of left o x ≡ Some y → OfForm y
 told-with left None x y k l e = assigned (target_of left) x y (λ t i. target-kept left t k i) l e
 told-with left (Some op) x y k l e = augmented (augmented_of left) op x y (λ t i. augmented-kept left t k i) l e
 
-told' : (p : Expression × Option (Option BinaryOperator × Expression)) (y : Form) → OfExpression p.0 × Maybe (λ q. Unit {0} × OfExpression q.1) p.1 → told_of p ≡ Some y → OfForm y
+told' : (p : Expression × Option (Option BinaryOperator × Expression)) (y : Form) → OfExpression p.0 × Maybe (λ q. Unit {0} × OfExpression q.1) p.1 → expression_or_assignment_of p ≡ Some y → OfForm y
 told' (left, None) y k e = subst OfForm (same_some (f.Expression left) y e) (an-expression left k.0)
 told' (left, Some q) y k e = told-with left q.0 q.1 y k.0 k.1.1 e
 
@@ -124,9 +124,9 @@ an-if (all, Some others) k = a-choice all others k.0 k.1
 
 -- ---- productions
 
-module _ (k : Readers) (m : (l : Level) → Makes k sorts.expression (the (level l)) OfExpression) (n : Makes k (list sorts.statement) (the statement) (Each OfStatement)) where
+module _ (k : Readers) (m : (l : Level) → Makes k sorts.expression (nonterminal (level l)) OfExpression) (n : Makes k (list sorts.statement) (nonterminal statement) (Each OfStatement)) where
   small-form : Makes k _ small_form OfForm
-  unfolding small_form returned keyword_form load told right_side
+  unfolding small_form returned keyword_form load expression_or_assignment right_side
   small-form = makes-alt k (makes-act k a-return (makes-after k (makes-opt k (tests' k m))))
       (makes-alt k (makes-alt k (makes-act k (λ u q. a-break) (makes-any k)) (makes-alt k (makes-act k (λ u q. a-continue) (makes-any k)) (makes-act k (λ u q. a-pass) (makes-any k))))
       (makes-alt k (makes-act k (λ p q. a-load p.0 p.1) (makes-any k))
@@ -137,7 +137,7 @@ module _ (k : Readers) (m : (l : Level) → Makes k sorts.expression (the (level
   small' = makes-act k (λ p q. a-statement p.0 p.1 q) (makes-placed k small-form)
 
   simple' : Makes k _ simple (Each OfStatement)
-  unfolding simple smalls next_small
+  unfolding simple small_statements next_small
   simple' = makes-before k (makes-list k small' (makes-after k small'))
 
   colon-suite : Makes k _ colon_suite (Each OfStatement)

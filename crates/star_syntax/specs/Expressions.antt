@@ -33,7 +33,7 @@ use Rattle.star_tree.specs.declared.tree.Clause.{Clause}
 use Rattle.star_tree.specs.declared.tree.Clause.TheVariants as clauses
 use Rattle.star_syntax.specs.Sorts.{Sort, Val, both, maybe, list}
 use Rattle.star_syntax.specs.Sorts as sorts
-use Rattle.star_syntax.specs.Grammar.{level, G, one, empty, seq, alt, fold, act, when, the}
+use Rattle.star_syntax.specs.Grammar.{level, Part, terminal, empty, seq, alt, fold, act, when, nonterminal}
 use Rattle.star_syntax.specs.Keeps.{keep, arguments_in_order, parameters_in_order, target_of}
 
 -- ---- words for productions
@@ -57,19 +57,19 @@ abbrev pub snoc : {A : Type 0} → List A → A → List A
 snoc xs x = xs ++ x ∷ []
 
 -- `[ g ]`
-abbrev pub opt : {a : Sort} → G a → G (maybe a)
+abbrev pub opt : {a : Sort} → Part a → Part (maybe a)
 opt g = alt (act Some g) (act none_of empty)
 
 -- `{ g }`
-abbrev pub rep : {a : Sort} → G a → G (list a)
+abbrev pub rep : {a : Sort} → Part a → Part (list a)
 rep g = fold snoc (act nil_of empty) g
 
 -- the second of two, if the first says nothing more
-abbrev pub after : {a b : Sort} → G a → G b → G b
+abbrev pub after : {a b : Sort} → Part a → Part b → Part b
 after g h = act right_of (seq g h)
 
 -- the first of two, if the second says nothing more
-abbrev pub before : {a b : Sort} → G a → G b → G a
+abbrev pub before : {a b : Sort} → Part a → Part b → Part a
 before g h = act left_of (seq g h)
 
 -- ---- leaves
@@ -166,35 +166,35 @@ comparator_word (word.Punctuator sign) = comparator_sign sign
 comparator_word (word.Keyword k.In) = Some comparators.In
 comparator_word _ = None
 
-abbrev pub sign_ : Punctuator → G sorts.nothing
-sign_ sign = one (λ t. is_sign sign t.word)
+abbrev pub sign_ : Punctuator → Part sorts.nothing
+sign_ sign = terminal (λ t. is_sign sign t.word)
 
-abbrev pub keyword_ : Keyword → G sorts.nothing
-keyword_ keyword = one (λ t. is_keyword keyword t.word)
+abbrev pub keyword_ : Keyword → Part sorts.nothing
+keyword_ keyword = terminal (λ t. is_keyword keyword t.word)
 
 -- a sign or a keyword, with its position
-abbrev pub sign_at : Punctuator → G sorts.position
-sign_at sign = one (λ t. placed_at t.position (is_sign sign t.word))
+abbrev pub sign_at : Punctuator → Part sorts.position
+sign_at sign = terminal (λ t. placed_at t.position (is_sign sign t.word))
 
-abbrev pub keyword_at : Keyword → G sorts.position
-keyword_at keyword = one (λ t. placed_at t.position (is_keyword keyword t.word))
+abbrev pub keyword_at : Keyword → Part sorts.position
+keyword_at keyword = terminal (λ t. placed_at t.position (is_keyword keyword t.word))
 
-abbrev pub name : G sorts.name
-name = one (λ t. name_of t.position t.word)
+abbrev pub name : Part sorts.name
+name = terminal (λ t. name_of t.position t.word)
 
-abbrev pub unary_operator : G sorts.unary
-unary_operator = one (λ t. unary_word t.word)
+abbrev pub unary_operator : Part sorts.unary
+unary_operator = terminal (λ t. unary_word t.word)
 
-abbrev pub binary_operator : ℕ → G sorts.binary
-binary_operator n = one (λ t. binary_word n t.word)
+abbrev pub binary_operator : ℕ → Part sorts.binary
+binary_operator n = terminal (λ t. binary_word n t.word)
 
 -- ---- the values of productions
 
 abbrev pub unary_of : UnaryOperator × Expression → Expression
 unary_of p = e.Unary p.0 p.1
 
-abbrev pub denied_of : Expression → Expression
-denied_of x = e.Unary unaries.Not x
+abbrev pub not_of : Expression → Expression
+not_of x = e.Unary unaries.Not x
 
 abbrev pub binary_of : Expression → BinaryOperator × Expression → Expression
 binary_of left p = e.Binary p.0 left p.1
@@ -293,247 +293,247 @@ star_of (Some bound) = parameters.Star bound
 -- ---- productions
 
 -- Test
-abbrev pub a_test : G sorts.expression
-a_test = the (level levels.Test)
+abbrev pub a_test : Part sorts.expression
+a_test = nonterminal (level levels.Test)
 
 -- ',' Test
-unfoldable pub next_test : G sorts.expression
+unfoldable pub next_test : Part sorts.expression
 next_test = after (sign_ s.Comma) a_test
 
 -- Test {',' Test}
-unfoldable pub list_of_tests : G (list sorts.expression)
+unfoldable pub list_of_tests : Part (list sorts.expression)
 list_of_tests = fold snoc (act single a_test) next_test
 
 -- Tests = Test {',' Test}
-unfoldable pub tests : G sorts.expression
+unfoldable pub tests : Part sorts.expression
 tests = act tuple_unless_one list_of_tests
 
 -- ---- targets, clauses
 
 -- ',' Primary
-unfoldable pub next_primary : G sorts.expression
-next_primary = after (sign_ s.Comma) (the (level levels.Primary))
+unfoldable pub next_primary : Part sorts.expression
+next_primary = after (sign_ s.Comma) (nonterminal (level levels.Primary))
 
 -- Primary {',' Primary}
-unfoldable pub list_of_primaries : G (list sorts.expression)
-list_of_primaries = fold snoc (act single (the (level levels.Primary))) next_primary
+unfoldable pub list_of_primaries : Part (list sorts.expression)
+list_of_primaries = fold snoc (act single (nonterminal (level levels.Primary))) next_primary
 
 -- Primary {',' Primary}, several as a tuple
-unfoldable pub primaries : G sorts.expression
+unfoldable pub primaries : Part sorts.expression
 primaries = act tuple_unless_one list_of_primaries
 
 -- Targets = Primary {',' Primary}, if they are a target
-unfoldable pub targets : G sorts.target
+unfoldable pub targets : Part sorts.target
 targets = when target_of primaries
 
 -- ForClause = 'for' Targets 'in' Or
-unfoldable pub for_clause : G (both sorts.target sorts.expression)
-for_clause = after (keyword_ k.For) (seq targets (after (keyword_ k.In) (the (level levels.Or))))
+unfoldable pub for_clause : Part (both sorts.target sorts.expression)
+for_clause = after (keyword_ k.For) (seq targets (after (keyword_ k.In) (nonterminal (level levels.Or))))
 
 -- 'if' Or
-unfoldable pub if_clause : G sorts.clause
-if_clause = act clauses.If (after (keyword_ k.If) (the (level levels.Or)))
+unfoldable pub if_clause : Part sorts.clause
+if_clause = act clauses.If (after (keyword_ k.If) (nonterminal (level levels.Or)))
 
 -- ForClause | 'if' Or
-unfoldable pub next_clause : G sorts.clause
+unfoldable pub next_clause : Part sorts.clause
 next_clause = alt (act clause_of for_clause) if_clause
 
 -- {ForClause | 'if' Or}
-unfoldable pub further_clauses : G (list sorts.clause)
+unfoldable pub further_clauses : Part (list sorts.clause)
 further_clauses = rep next_clause
 
 -- Clauses = ForClause {ForClause | 'if' Or}
-unfoldable pub all_clauses : G sorts.clauses
+unfoldable pub all_clauses : Part sorts.clauses
 all_clauses = act clauses_of (seq for_clause further_clauses)
 
 -- ---- parentheses and displays
 
 -- [Tests [',']]
-unfoldable pub inside : G (maybe (both (list sorts.expression) (maybe sorts.nothing)))
+unfoldable pub inside : Part (maybe (both (list sorts.expression) (maybe sorts.nothing)))
 inside = opt (seq list_of_tests (opt (sign_ s.Comma)))
 
 -- '(' [Tests [',']] ')'
-unfoldable pub parentheses : G sorts.expression
+unfoldable pub parentheses : Part sorts.expression
 parentheses = after (sign_ s.LeftParen) (act parentheses_of (before inside (sign_ s.RightParen)))
 
 -- {',' Test}
-unfoldable pub further_tests : G (list sorts.expression)
+unfoldable pub further_tests : Part (list sorts.expression)
 further_tests = rep next_test
 
 -- Clauses | {',' Test} [',']
-unfoldable pub after_element : G (both (maybe sorts.clauses) (list sorts.expression))
+unfoldable pub after_element : Part (both (maybe sorts.clauses) (list sorts.expression))
 after_element = alt (act as_clauses all_clauses) (act as_further (before further_tests (opt (sign_ s.Comma))))
 
 -- [Test (Clauses | {',' Test} [','])]
-unfoldable pub elements : G (maybe (both sorts.expression (both (maybe sorts.clauses) (list sorts.expression))))
+unfoldable pub elements : Part (maybe (both sorts.expression (both (maybe sorts.clauses) (list sorts.expression))))
 elements = opt (seq a_test after_element)
 
 -- '[' [Tests [',']] ']' | '[' Test Clauses ']'
-unfoldable pub list_display : G sorts.expression
+unfoldable pub list_display : Part sorts.expression
 list_display = act list_of (seq (sign_at s.LeftBracket) (before elements (sign_ s.RightBracket)))
 
 -- Entry = Test ':' Test
-unfoldable pub entry : G sorts.entry
+unfoldable pub entry : Part sorts.entry
 entry = act entry_of (seq a_test (after (sign_ s.Colon) a_test))
 
 -- ',' Entry
-unfoldable pub next_entry : G sorts.entry
+unfoldable pub next_entry : Part sorts.entry
 next_entry = after (sign_ s.Comma) entry
 
 -- {',' Entry}
-unfoldable pub further_entries : G (list sorts.entry)
+unfoldable pub further_entries : Part (list sorts.entry)
 further_entries = rep next_entry
 
 -- Clauses | {',' Entry} [',']
-unfoldable pub after_entry : G (both (maybe sorts.clauses) (list sorts.entry))
+unfoldable pub after_entry : Part (both (maybe sorts.clauses) (list sorts.entry))
 after_entry = alt (act as_clauses all_clauses) (act as_further (before further_entries (opt (sign_ s.Comma))))
 
 -- [Entry (Clauses | {',' Entry} [','])]
-unfoldable pub entries : G (maybe (both sorts.entry (both (maybe sorts.clauses) (list sorts.entry))))
+unfoldable pub entries : Part (maybe (both sorts.entry (both (maybe sorts.clauses) (list sorts.entry))))
 entries = opt (seq entry after_entry)
 
 -- '{' [Entry {',' Entry} [',']] '}' | '{' Entry Clauses '}'
-unfoldable pub dict_display : G sorts.expression
+unfoldable pub dict_display : Part sorts.expression
 dict_display = act dict_of (seq (sign_at s.LeftBrace) (before entries (sign_ s.RightBrace)))
 
 -- name | int | string
-unfoldable pub atom : G sorts.expression
-atom = one (λ t. atom_of t.position t.word)
+unfoldable pub atom : Part sorts.expression
+atom = terminal (λ t. atom_of t.position t.word)
 
 -- Operand = name | int | string | '(' .. ')' | '[' .. ']' | '{' .. '}'
-unfoldable pub operand : G sorts.expression
+unfoldable pub operand : Part sorts.expression
 operand = alt atom (alt parentheses (alt list_display dict_display))
 
 -- ---- arguments
 
 -- name '=' Test
-unfoldable pub named : G sorts.argument
+unfoldable pub named : Part sorts.argument
 named = act named_of (seq (before name (sign_ s.Assign)) a_test)
 
 -- name '=' Test | '*' Test | '**' Test | Test: a name before '=' begins a named argument
-unfoldable pub argument : G sorts.argument
+unfoldable pub argument : Part sorts.argument
 argument =
     alt named (alt (act arguments.Star (after (sign_ s.Star) a_test))
     (alt (act arguments.StarStar (after (sign_ s.StarStar) a_test)) (act arguments.Positional a_test)))
 
 -- ',' argument
-unfoldable pub next_argument : G sorts.argument
+unfoldable pub next_argument : Part sorts.argument
 next_argument = after (sign_ s.Comma) argument
 
 -- argument {',' argument}
-unfoldable pub list_of_arguments : G (list sorts.argument)
+unfoldable pub list_of_arguments : Part (list sorts.argument)
 list_of_arguments = fold snoc (act single argument) next_argument
 
 -- Args = argument {',' argument}, in order
-unfoldable pub ordered_arguments : G (list sorts.argument)
+unfoldable pub ordered_arguments : Part (list sorts.argument)
 ordered_arguments = when (keep arguments_in_order) list_of_arguments
 
 -- [Args [',']]
-unfoldable pub given : G (list sorts.argument)
-given = alt (before ordered_arguments (opt (sign_ s.Comma))) (act nil_of empty)
+unfoldable pub optional_arguments : Part (list sorts.argument)
+optional_arguments = alt (before ordered_arguments (opt (sign_ s.Comma))) (act nil_of empty)
 
 -- ---- parameters
 
 -- '=' Test
-unfoldable pub default : G sorts.expression
+unfoldable pub default : Part sorts.expression
 default = after (sign_ s.Assign) a_test
 
 -- name ['=' Test]
-unfoldable pub named_parameter : G sorts.parameter
+unfoldable pub named_parameter : Part sorts.parameter
 named_parameter = act parameter_of (seq name (opt default))
 
 -- '*' [name]
-unfoldable pub star : G sorts.parameter
+unfoldable pub star : Part sorts.parameter
 star = act star_of (after (sign_ s.Star) (opt name))
 
 -- '**' name
-unfoldable pub star_star : G sorts.parameter
+unfoldable pub star_star : Part sorts.parameter
 star_star = act parameters.StarStar (after (sign_ s.StarStar) name)
 
 -- name ['=' Test] | '*' [name] | '**' name
-unfoldable pub parameter : G sorts.parameter
+unfoldable pub parameter : Part sorts.parameter
 parameter = alt named_parameter (alt star star_star)
 
 -- ',' parameter
-unfoldable pub next_parameter : G sorts.parameter
+unfoldable pub next_parameter : Part sorts.parameter
 next_parameter = after (sign_ s.Comma) parameter
 
 -- parameter {',' parameter}
-unfoldable pub list_of_parameters : G (list sorts.parameter)
+unfoldable pub list_of_parameters : Part (list sorts.parameter)
 list_of_parameters = fold snoc (act single parameter) next_parameter
 
 -- Params = parameter {',' parameter}, in order
-unfoldable pub ordered_parameters : G (list sorts.parameter)
+unfoldable pub ordered_parameters : Part (list sorts.parameter)
 ordered_parameters = when (keep parameters_in_order) list_of_parameters
 
 -- [Params [',']]
-unfoldable pub taken : G (list sorts.parameter)
-taken = alt (before ordered_parameters (opt (sign_ s.Comma))) (act nil_of empty)
+unfoldable pub optional_parameters : Part (list sorts.parameter)
+optional_parameters = alt (before ordered_parameters (opt (sign_ s.Comma))) (act nil_of empty)
 
 -- '(' [Params [',']] ')'
-unfoldable pub parameters_in_parentheses : G (list sorts.parameter)
-parameters_in_parentheses = after (sign_ s.LeftParen) (before taken (sign_ s.RightParen))
+unfoldable pub parameters_in_parentheses : Part (list sorts.parameter)
+parameters_in_parentheses = after (sign_ s.LeftParen) (before optional_parameters (sign_ s.RightParen))
 
 -- [Params]
-unfoldable pub lambda_parameters : G (list sorts.parameter)
+unfoldable pub lambda_parameters : Part (list sorts.parameter)
 lambda_parameters = alt ordered_parameters (act nil_of empty)
 
 -- 'lambda' [Params] ':' Test
-unfoldable pub lambda : G sorts.expression
+unfoldable pub lambda : Part sorts.expression
 lambda = act lambda_of (seq (keyword_at k.Lambda) (seq lambda_parameters (after (sign_ s.Colon) a_test)))
 
 -- ---- the suffixes of an operand
 
 -- '.' name
-unfoldable pub attribute : G sorts.suffix
+unfoldable pub attribute : Part sorts.suffix
 attribute = act suffixes.Attribute (after (sign_ s.Dot) name)
 
 -- '(' [Args [',']] ')'
-unfoldable pub call : G sorts.suffix
-call = act suffixes.Call (after (sign_ s.LeftParen) (before given (sign_ s.RightParen)))
+unfoldable pub call : Part sorts.suffix
+call = act suffixes.Call (after (sign_ s.LeftParen) (before optional_arguments (sign_ s.RightParen)))
 
 -- [':' [Test]]
-unfoldable pub stride : G (maybe sorts.expression)
+unfoldable pub stride : Part (maybe sorts.expression)
 stride = alt (after (sign_ s.Colon) (opt a_test)) (act none_of empty)
 
 -- ':' [Test] [':' [Test]]
-unfoldable pub stop_and_stride : G (both (maybe sorts.expression) (maybe sorts.expression))
+unfoldable pub stop_and_stride : Part (both (maybe sorts.expression) (maybe sorts.expression))
 stop_and_stride = after (sign_ s.Colon) (seq (opt a_test) stride)
 
 -- ':' [Test] [':' [Test]] | {',' Test}
-unfoldable pub after_start : G (both (maybe (both (maybe sorts.expression) (maybe sorts.expression)))
+unfoldable pub after_start : Part (both (maybe (both (maybe sorts.expression) (maybe sorts.expression)))
     (list sorts.expression))
 after_start = alt (act as_slice stop_and_stride) (act as_index further_tests)
 
 -- Test (':' [Test] [':' [Test]] | {',' Test})
-unfoldable pub from_test : G sorts.suffix
+unfoldable pub from_test : Part sorts.suffix
 from_test = act subscript_of (seq a_test after_start)
 
 -- Tests | [Test] ':' [Test] [':' [Test]]
-unfoldable pub in_brackets : G sorts.suffix
+unfoldable pub in_brackets : Part sorts.suffix
 in_brackets = alt from_test (act slice_from_nothing stop_and_stride)
 
 -- '[' Tests ']' | '[' [Test] ':' [Test] [':' [Test]] ']'
-unfoldable pub subscript : G sorts.suffix
+unfoldable pub subscript : Part sorts.suffix
 subscript = after (sign_ s.LeftBracket) (before in_brackets (sign_ s.RightBracket))
 
 -- '.' name | '(' .. ')' | '[' .. ']'
-unfoldable pub suffix : G sorts.suffix
+unfoldable pub suffix : Part sorts.suffix
 suffix = alt attribute (alt call subscript)
 
 -- Primary = Operand {suffix}
-unfoldable pub primary : G sorts.expression
+unfoldable pub primary : Part sorts.expression
 primary = fold with_suffix operand suffix
 
 -- ---- operators
 
 -- ('+' | '-' | '~') Unary
-unfoldable pub signed : G sorts.expression
-signed = act unary_of (seq unary_operator (the (level levels.Unary)))
+unfoldable pub sign_operand : Part sorts.expression
+sign_operand = act unary_of (seq unary_operator (nonterminal (level levels.Unary)))
 
 -- Unary = ('+' | '-' | '~') Unary | Primary
-unfoldable pub unary : G sorts.expression
-unary = alt signed primary
+unfoldable pub unary : Part sorts.expression
+unary = alt sign_operand primary
 
 -- the levels of signs between two operands, the tightest first:
 -- Term = Unary {('*' | '//' | '%') Unary}
@@ -542,62 +542,62 @@ unary = alt signed primary
 -- BitAnd = Shift {'&' Shift}
 -- BitXor = BitAnd {'^' BitAnd}
 -- BitOr = BitXor {'|' BitXor}
-unfoldable pub climb : ℕ → G sorts.expression
+unfoldable pub climb : ℕ → Part sorts.expression
 climb zero = unary
 climb (suc n) = fold binary_of (climb n) (seq (binary_operator n) (climb n))
 
 -- a sign of a level, and the operand after it
-abbrev pub round_at : ℕ → G (both sorts.binary sorts.expression)
+abbrev pub round_at : ℕ → Part (both sorts.binary sorts.expression)
 round_at n = seq (binary_operator n) (climb n)
 
 -- BitOr
-unfoldable pub bit_or : G sorts.expression
+unfoldable pub bit_or : Part sorts.expression
 bit_or = climb 6
 
 -- CmpOp = '==' | '!=' | '<' | '>' | '<=' | '>=' | 'in' | 'not' 'in'
-unfoldable pub comparator : G sorts.comparator
-comparator = alt (one (λ t. comparator_word t.word)) (act not_in_of (seq (keyword_ k.Not) (keyword_ k.In)))
+unfoldable pub comparator : Part sorts.comparator
+comparator = alt (terminal (λ t. comparator_word t.word)) (act not_in_of (seq (keyword_ k.Not) (keyword_ k.In)))
 
 -- CmpOp BitOr
-unfoldable pub compared : G (both sorts.comparator sorts.expression)
+unfoldable pub compared : Part (both sorts.comparator sorts.expression)
 compared = seq comparator bit_or
 
 -- Cmp = BitOr [CmpOp BitOr]
-unfoldable pub comparison : G sorts.expression
+unfoldable pub comparison : Part sorts.expression
 comparison = act comparison_of (seq bit_or (opt compared))
 
 -- 'not' Not
-unfoldable pub denied : G sorts.expression
-denied = act denied_of (after (keyword_ k.Not) (the (level levels.Negation)))
+unfoldable pub not_operand : Part sorts.expression
+not_operand = act not_of (after (keyword_ k.Not) (nonterminal (level levels.Negation)))
 
 -- Not = 'not' Not | Cmp
-unfoldable pub negation : G sorts.expression
-negation = alt denied comparison
+unfoldable pub negation : Part sorts.expression
+negation = alt not_operand comparison
 
 -- 'and' Not
-unfoldable pub next_negation : G sorts.expression
+unfoldable pub next_negation : Part sorts.expression
 next_negation = after (keyword_ k.And) negation
 
 -- And = Not {'and' Not}
-unfoldable pub conjunction : G sorts.expression
+unfoldable pub conjunction : Part sorts.expression
 conjunction = fold and_of negation next_negation
 
 -- 'or' And
-unfoldable pub next_conjunction : G sorts.expression
+unfoldable pub next_conjunction : Part sorts.expression
 next_conjunction = after (keyword_ k.Or) conjunction
 
 -- Or = And {'or' And}
-unfoldable pub disjunction : G sorts.expression
+unfoldable pub disjunction : Part sorts.expression
 disjunction = fold or_of conjunction next_conjunction
 
 -- 'if' Or 'else' Test
-unfoldable pub choice : G (both sorts.expression sorts.expression)
+unfoldable pub choice : Part (both sorts.expression sorts.expression)
 choice = after (keyword_ k.If) (seq disjunction (after (keyword_ k.Else) a_test))
 
 -- Or ['if' Or 'else' Test]
-unfoldable pub conditional : G sorts.expression
+unfoldable pub conditional : Part sorts.expression
 conditional = act conditional_of (seq disjunction (opt choice))
 
 -- Test = Or ['if' Or 'else' Test] | 'lambda' [Params] ':' Test
-unfoldable pub any_test : G sorts.expression
+unfoldable pub any_test : Part sorts.expression
 any_test = alt lambda conditional

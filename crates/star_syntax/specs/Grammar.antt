@@ -16,95 +16,95 @@ abbrev pub sort : Rule → Sort
 sort (level l) = sorts.expression
 sort statement = sorts.list sorts.statement
 
-pub data G : Sort → Type 0 where
+pub data Part : Sort → Type 0 where
   -- one leaf that has a value here
-  one : {a : Sort} → (ValuedToken → Option (Val a)) → G a
-  empty : G sorts.nothing
-  seq : {a b : Sort} → G a → G b → G (both a b)
+  terminal : {a : Sort} → (ValuedToken → Option (Val a)) → Part a
+  empty : Part sorts.nothing
+  seq : {a b : Sort} → Part a → Part b → Part (both a b)
   -- the first that reads
-  alt : {a : Sort} → G a → G a → G a
+  alt : {a : Sort} → Part a → Part a → Part a
   -- the first part, then rounds of the second as long as one reads, each joined from the left
-  fold : {a b : Sort} → (Val a → Val b → Val a) → G a → G b → G a
-  act : {a b : Sort} → (Val a → Val b) → G a → G b
+  fold : {a b : Sort} → (Val a → Val b → Val a) → Part a → Part b → Part a
+  act : {a b : Sort} → (Val a → Val b) → Part a → Part b
   -- only values that the function maps to one
-  when : {a b : Sort} → (Val a → Option (Val b)) → G a → G b
+  when : {a b : Sort} → (Val a → Option (Val b)) → Part a → Part b
   -- a part that takes a leaf at least, with the position of its first leaf
-  placed : {a : Sort} → G a → G (both sorts.position a)
-  the : (r : Rule) → G (sort r)
+  placed : {a : Sort} → Part a → Part (both sorts.position a)
+  nonterminal : (r : Rule) → Part (sort r)
 
 abbrev pub Answer : Type 0 → Type 0
 Answer A = Option (A × List ValuedToken)
 
 -- ---- the spelling of a part
 
-pub data Spells (rule : (r : Rule) → G (sort r)) : (s : Sort) → G s → Val s → List ValuedToken → Type 0 where
-  one' : {a : Sort} {p : ValuedToken → Option (Val a)} {x : Val a} {t : ValuedToken} → p t ≡ Some x → Spells rule _ (one p) x (t ∷ [])
+pub data Spells (rule : (r : Rule) → Part (sort r)) : (s : Sort) → Part s → Val s → List ValuedToken → Type 0 where
+  terminal' : {a : Sort} {p : ValuedToken → Option (Val a)} {x : Val a} {t : ValuedToken} → p t ≡ Some x → Spells rule _ (terminal p) x (t ∷ [])
   empty' : Spells rule _ empty tt []
-  seq' : {a b : Sort} {g : G a} {h : G b} {x : Val a} {y : Val b} {xs ys : List ValuedToken} → Spells rule _ g x xs
+  seq' : {a b : Sort} {g : Part a} {h : Part b} {x : Val a} {y : Val b} {xs ys : List ValuedToken} → Spells rule _ g x xs
       → Spells rule _ h y ys → Spells rule _ (seq g h) (x, y) (xs ++ ys)
-  left' : {a : Sort} {g h : G a} {x : Val a} {xs : List ValuedToken} → Spells rule _ g x xs → Spells rule _ (alt g h) x xs
-  right' : {a : Sort} {g h : G a} {x : Val a} {xs : List ValuedToken} → Spells rule _ h x xs → Spells rule _ (alt g h) x xs
-  start' : {a b : Sort} {f : Val a → Val b → Val a} {g : G a} {h : G b} {x : Val a} {xs : List ValuedToken}
+  left' : {a : Sort} {g h : Part a} {x : Val a} {xs : List ValuedToken} → Spells rule _ g x xs → Spells rule _ (alt g h) x xs
+  right' : {a : Sort} {g h : Part a} {x : Val a} {xs : List ValuedToken} → Spells rule _ h x xs → Spells rule _ (alt g h) x xs
+  start' : {a b : Sort} {f : Val a → Val b → Val a} {g : Part a} {h : Part b} {x : Val a} {xs : List ValuedToken}
       → Spells rule _ g x xs → Spells rule _ (fold f g h) x xs
-  round' : {a b : Sort} {f : Val a → Val b → Val a} {g : G a} {h : G b} {x : Val a} {y : Val b} {xs ys : List ValuedToken}
+  round' : {a b : Sort} {f : Val a → Val b → Val a} {g : Part a} {h : Part b} {x : Val a} {y : Val b} {xs ys : List ValuedToken}
       → Spells rule _ (fold f g h) x xs → Spells rule _ h y ys → Spells rule _ (fold f g h) (f x y) (xs ++ ys)
-  act' : {a b : Sort} {f : Val a → Val b} {g : G a} {x : Val a} {xs : List ValuedToken} → Spells rule _ g x xs
+  act' : {a b : Sort} {f : Val a → Val b} {g : Part a} {x : Val a} {xs : List ValuedToken} → Spells rule _ g x xs
       → Spells rule _ (act f g) (f x) xs
-  when' : {a b : Sort} {f : Val a → Option (Val b)} {g : G a} {x : Val a} {y : Val b} {xs : List ValuedToken} → f x ≡ Some y
+  when' : {a b : Sort} {f : Val a → Option (Val b)} {g : Part a} {x : Val a} {y : Val b} {xs : List ValuedToken} → f x ≡ Some y
       → Spells rule _ g x xs → Spells rule _ (when f g) y xs
-  placed' : {a : Sort} {g : G a} {x : Val a} {t : ValuedToken} {xs : List ValuedToken} → Spells rule _ g x (t ∷ xs)
+  placed' : {a : Sort} {g : Part a} {x : Val a} {t : ValuedToken} {xs : List ValuedToken} → Spells rule _ g x (t ∷ xs)
       → Spells rule _ (placed g) (t.position, x) (t ∷ xs)
-  the' : {r : Rule} {x : Val (sort r)} {xs : List ValuedToken} → Spells rule _ (rule r) x xs → Spells rule _ (the r) x xs
+  nonterminal' : {r : Rule} {x : Val (sort r)} {xs : List ValuedToken} → Spells rule _ (rule r) x xs → Spells rule _ (nonterminal r) x xs
 
 -- ---- the reading of a part at the front of the leaves, or that it reads nothing there
 
 mutual
-  pub data Reads (rule : (r : Rule) → G (sort r)) : (s : Sort) → G s → List ValuedToken → Answer (Val s) → Type 0 where
+  pub data Reads (rule : (r : Rule) → Part (sort r)) : (s : Sort) → Part s → List ValuedToken → Answer (Val s) → Type 0 where
     hit : {a : Sort} {p : ValuedToken → Option (Val a)} {x : Val a} {t : ValuedToken} {ts : List ValuedToken} → p t ≡ Some x
-        → Reads rule _ (one p) (t ∷ ts) (Some (x, ts))
+        → Reads rule _ (terminal p) (t ∷ ts) (Some (x, ts))
     miss : {a : Sort} {p : ValuedToken → Option (Val a)} {t : ValuedToken} {ts : List ValuedToken} → p t ≡ None
-        → Reads rule _ (one p) (t ∷ ts) None
-    over : {a : Sort} {p : ValuedToken → Option (Val a)} → Reads rule _ (one p) [] None
+        → Reads rule _ (terminal p) (t ∷ ts) None
+    over : {a : Sort} {p : ValuedToken → Option (Val a)} → Reads rule _ (terminal p) [] None
     free : {ts : List ValuedToken} → Reads rule _ empty ts (Some (tt, ts))
-    seq-some : {a b : Sort} {g : G a} {h : G b} {x : Val a} {y : Val b} {ts us vs : List ValuedToken}
+    seq-some : {a b : Sort} {g : Part a} {h : Part b} {x : Val a} {y : Val b} {ts us vs : List ValuedToken}
         → Reads rule _ g ts (Some (x, us)) → Reads rule _ h us (Some (y, vs))
         → Reads rule _ (seq g h) ts (Some ((x, y), vs))
-    seq-first : {a b : Sort} {g : G a} {h : G b} {ts : List ValuedToken} → Reads rule _ g ts None
+    seq-first : {a b : Sort} {g : Part a} {h : Part b} {ts : List ValuedToken} → Reads rule _ g ts None
         → Reads rule _ (seq g h) ts None
-    seq-second : {a b : Sort} {g : G a} {h : G b} {x : Val a} {ts us : List ValuedToken} → Reads rule _ g ts (Some (x, us))
+    seq-second : {a b : Sort} {g : Part a} {h : Part b} {x : Val a} {ts us : List ValuedToken} → Reads rule _ g ts (Some (x, us))
         → Reads rule _ h us None → Reads rule _ (seq g h) ts None
-    alt-first : {a : Sort} {g h : G a} {ts : List ValuedToken} {p : Val a × List ValuedToken} → Reads rule _ g ts (Some p)
+    alt-first : {a : Sort} {g h : Part a} {ts : List ValuedToken} {p : Val a × List ValuedToken} → Reads rule _ g ts (Some p)
         → Reads rule _ (alt g h) ts (Some p)
-    alt-second : {a : Sort} {g h : G a} {ts : List ValuedToken} {r : Answer (Val a)} → Reads rule _ g ts None
+    alt-second : {a : Sort} {g h : Part a} {ts : List ValuedToken} {r : Answer (Val a)} → Reads rule _ g ts None
         → Reads rule _ h ts r → Reads rule _ (alt g h) ts r
-    fold-none : {a b : Sort} {f : Val a → Val b → Val a} {g : G a} {h : G b} {ts : List ValuedToken} → Reads rule _ g ts None
+    fold-none : {a b : Sort} {f : Val a → Val b → Val a} {g : Part a} {h : Part b} {ts : List ValuedToken} → Reads rule _ g ts None
         → Reads rule _ (fold f g h) ts None
-    fold-some : {a b : Sort} {f : Val a → Val b → Val a} {g : G a} {h : G b} {x : Val a} {ts us : List ValuedToken}
+    fold-some : {a b : Sort} {f : Val a → Val b → Val a} {g : Part a} {h : Part b} {x : Val a} {ts us : List ValuedToken}
         {p : Val a × List ValuedToken} → Reads rule _ g ts (Some (x, us)) → Rounds rule _ _ f h x us p
         → Reads rule _ (fold f g h) ts (Some p)
-    act-none : {a b : Sort} {f : Val a → Val b} {g : G a} {ts : List ValuedToken} → Reads rule _ g ts None
+    act-none : {a b : Sort} {f : Val a → Val b} {g : Part a} {ts : List ValuedToken} → Reads rule _ g ts None
         → Reads rule _ (act f g) ts None
-    act-some : {a b : Sort} {f : Val a → Val b} {g : G a} {x : Val a} {ts us : List ValuedToken}
+    act-some : {a b : Sort} {f : Val a → Val b} {g : Part a} {x : Val a} {ts us : List ValuedToken}
         → Reads rule _ g ts (Some (x, us)) → Reads rule _ (act f g) ts (Some (f x, us))
-    when-none : {a b : Sort} {f : Val a → Option (Val b)} {g : G a} {ts : List ValuedToken} → Reads rule _ g ts None
+    when-none : {a b : Sort} {f : Val a → Option (Val b)} {g : Part a} {ts : List ValuedToken} → Reads rule _ g ts None
         → Reads rule _ (when f g) ts None
-    when-broken : {a b : Sort} {f : Val a → Option (Val b)} {g : G a} {x : Val a} {ts us : List ValuedToken} → f x ≡ None
+    when-broken : {a b : Sort} {f : Val a → Option (Val b)} {g : Part a} {x : Val a} {ts us : List ValuedToken} → f x ≡ None
         → Reads rule _ g ts (Some (x, us)) → Reads rule _ (when f g) ts None
-    when-some : {a b : Sort} {f : Val a → Option (Val b)} {g : G a} {x : Val a} {y : Val b} {ts us : List ValuedToken} → f x
+    when-some : {a b : Sort} {f : Val a → Option (Val b)} {g : Part a} {x : Val a} {y : Val b} {ts us : List ValuedToken} → f x
         ≡ Some y → Reads rule _ g ts (Some (x, us)) → Reads rule _ (when f g) ts (Some (y, us))
-    placed-none : {a : Sort} {g : G a} {ts : List ValuedToken} → Reads rule _ g ts None → Reads rule _ (placed g) ts None
-    placed-some : {a : Sort} {g : G a} {x : Val a} {t : ValuedToken} (xs : List ValuedToken) {us : List ValuedToken}
+    placed-none : {a : Sort} {g : Part a} {ts : List ValuedToken} → Reads rule _ g ts None → Reads rule _ (placed g) ts None
+    placed-some : {a : Sort} {g : Part a} {x : Val a} {t : ValuedToken} (xs : List ValuedToken) {us : List ValuedToken}
         → Reads rule _ g (t ∷ (xs ++ us)) (Some (x, us))
         → Reads rule _ (placed g) (t ∷ (xs ++ us)) (Some ((t.position, x), us))
     itself : {r : Rule} {ts : List ValuedToken} {a : Answer (Val (sort r))} → Reads rule _ (rule r) ts a
-        → Reads rule _ (the r) ts a
+        → Reads rule _ (nonterminal r) ts a
 
   -- a further round is taken wherever one reads
-  pub data Rounds (rule : (r : Rule) → G (sort r)) : (a b : Sort) → (Val a → Val b → Val a) → G b → Val a → List ValuedToken
+  pub data Rounds (rule : (r : Rule) → Part (sort r)) : (a b : Sort) → (Val a → Val b → Val a) → Part b → Val a → List ValuedToken
       → Val a × List ValuedToken → Type 0 where
-    stop : {a b : Sort} {f : Val a → Val b → Val a} {h : G b} {x : Val a} {ts : List ValuedToken} → Reads rule _ h ts None
+    stop : {a b : Sort} {f : Val a → Val b → Val a} {h : Part b} {x : Val a} {ts : List ValuedToken} → Reads rule _ h ts None
         → Rounds rule _ _ f h x ts (x, ts)
-    more : {a b : Sort} {f : Val a → Val b → Val a} {h : G b} {x : Val a} {y : Val b} {ts us : List ValuedToken} {p : Val a
+    more : {a b : Sort} {f : Val a → Val b → Val a} {h : Part b} {x : Val a} {y : Val b} {ts us : List ValuedToken} {p : Val a
         × List ValuedToken} → Reads rule _ h ts (Some (y, us)) → Rounds rule _ _ f h (f x y) us p → Rounds rule _ _ f h x ts p
 
 -- ---- reading, computed
@@ -139,8 +139,8 @@ rounds f h (suc n) x ts = elim (h ts) [ None ↦ Some (x, ts) | Some p ↦ round
 abbrev pub Readers : Type 0
 Readers = (r : Rule) → List ValuedToken → Answer (Val (sort r))
 
-abbrev pub step : Readers → {s : Sort} → G s → List ValuedToken → Answer (Val s)
-step k (one p) ts = first p ts
+abbrev pub step : Readers → {s : Sort} → Part s → List ValuedToken → Answer (Val s)
+step k (terminal p) ts = first p ts
 step k empty ts = Some (tt, ts)
 step k (seq g h) ts = and_then (step k g ts) (λ x us. and_then (step k h us) (λ y vs. Some ((x, y), vs)))
 step k (alt g h) ts = or_else (step k g ts) (step k h ts)
@@ -148,8 +148,8 @@ step k (fold f g h) ts = and_then (step k g ts) (λ x us. rounds f (step k h) (l
 step k (act f g) ts = and_then (step k g ts) (λ x us. Some (f x, us))
 step k (when f g) ts = and_then (step k g ts) (λ x us. before_rest (f x) us)
 step k (placed g) ts = located ts (step k g ts)
-step k (the r) ts = k r ts
+step k (nonterminal r) ts = k r ts
 
-unfoldable pub run : ((r : Rule) → G (sort r)) → ℕ → Readers
+unfoldable pub run : ((r : Rule) → Part (sort r)) → ℕ → Readers
 run rule zero r ts = None
 run rule (suc d) r ts = step (run rule d) (rule r) ts

@@ -17,7 +17,7 @@ use Rattle.star_tree.specs.declared.tree.Form.TheFolds as form_folds
 use Rattle.star_syntax.specs.declared.level.Level.{Level}
 use Rattle.star_syntax.specs.declared.level.Level.TheVariants as levels
 use Rattle.star_syntax.specs.Sorts as sorts
-use Rattle.star_syntax.specs.Grammar.{level, the, Reads}
+use Rattle.star_syntax.specs.Grammar.{level, nonterminal, Reads}
 use Rattle.star_syntax.specs.Keeps.{arguments_in_order, parameters_in_order}
 use Rattle.star_syntax.specs.Language.{rule, Reading}
 use Rattle.star_syntax.specs.Written.{Written, Stops}
@@ -94,7 +94,7 @@ in_order =
     folds.para-Expression Bool Bool Bool Bool Bool Bool Bool argument_step clause_step expression_step parameter_step
     target_step clauses_step entry_step
 
--- the same of a parameter and of a target
+-- the same for a parameter and for a target
 unfoldable pub parameter_in_order : Parameter → Bool
 parameter_in_order =
     folds.para-Parameter Bool Bool Bool Bool Bool Bool Bool argument_step clause_step expression_step parameter_step
@@ -148,7 +148,7 @@ AllWritable = (x : Expression) → in_order x ≡ true → Writable x
 -- The law: an expression that is read, at any level of the grammar, is in order.
 abbrev pub ReadInOrder : Type 0
 ReadInOrder =
-    (l : Level) (x : Expression) (ts us : List ValuedToken) → Reads rule sorts.expression (the (level l)) ts (Some (x, us))
+    (l : Level) (x : Expression) (ts us : List ValuedToken) → Reads rule sorts.expression (nonterminal (level l)) ts (Some (x, us))
     → in_order x ≡ true
 
 -- The law: so is each statement of a file's reading.
@@ -160,6 +160,6 @@ TreeInOrder =
 -- expression.
 abbrev pub ReadIsWritten : Type 0
 ReadIsWritten =
-    (x : Expression) (ts us vs : List ValuedToken) → Reads rule sorts.expression (the (level levels.Test)) ts (Some (x, us))
+    (x : Expression) (ts us vs : List ValuedToken) → Reads rule sorts.expression (nonterminal (level levels.Test)) ts (Some (x, us))
     → Stops vs
-    → (ws : List ValuedToken) × Written x ws vs × Reads rule sorts.expression (the (level levels.Test)) ws (Some (x, vs))
+    → (ws : List ValuedToken) × Written x ws vs × Reads rule sorts.expression (nonterminal (level levels.Test)) ws (Some (x, vs))

@@ -10,11 +10,11 @@ use Rattle.star_tree.specs.declared.tree.Expression.{Expression}
 use Rattle.star_tree.specs.declared.tree.Statement.{Statement}
 use Rattle.star_syntax.specs.Sorts.{Sort, Val, list}
 use Rattle.star_syntax.specs.Sorts as sorts
-use Rattle.star_syntax.specs.Grammar.{Rule, level, statement, sort, G, Answer, run, step, Reads, Spells}
+use Rattle.star_syntax.specs.Grammar.{Rule, level, statement, sort, Part, Answer, run, step, Reads, Spells}
 use Rattle.star_syntax.specs.Expressions.{any_test, disjunction, negation, unary, primary}
 use Rattle.star_syntax.specs.Statements.{one_statement, file}
 
-abbrev pub rule_of_level : Level → G sorts.expression
+abbrev pub rule_of_level : Level → Part sorts.expression
 rule_of_level levels.Test = any_test
 rule_of_level levels.Or = disjunction
 rule_of_level levels.Negation = negation
@@ -22,7 +22,7 @@ rule_of_level levels.Unary = unary
 rule_of_level levels.Primary = primary
 
 -- the productions of the parts that hold themselves
-abbrev pub rule : (r : Rule) → G (sort r)
+abbrev pub rule : (r : Rule) → Part (sort r)
 rule (level l) = rule_of_level l
 rule statement = one_statement
 
@@ -32,7 +32,7 @@ pub record Reading (tree : List Statement) (leaves : List ValuedToken) : Type 0 
   pub greedy : Reads rule (list sorts.statement) file leaves (Some (tree, []))
 
 -- the reading of a part, with parts that hold themselves nested no deeper than the number
-abbrev pub reads : ℕ → {s : Sort} → G s → List ValuedToken → Answer (Val s)
+abbrev pub reads : ℕ → {s : Sort} → Part s → List ValuedToken → Answer (Val s)
 reads depth g ts = step (run rule depth) g ts
 
 -- ---- the answers of the code

@@ -21,7 +21,7 @@ use Rattle.star_tree.specs.declared.tree.LoadedName.{LoadedName}
 use Rattle.star_syntax.specs.Names.{is_name}
 use Rattle.star_syntax.specs.Sorts.{Sort, Val, both, maybe, list}
 use Rattle.star_syntax.specs.Sorts as sorts
-use Rattle.star_syntax.specs.Grammar.{statement, G, one, empty, seq, alt, fold, act, when, placed, the}
+use Rattle.star_syntax.specs.Grammar.{statement, Part, terminal, empty, seq, alt, fold, act, when, placed, nonterminal}
 use Rattle.star_syntax.specs.Keeps.{target_of, augmented_of}
 use Rattle.star_syntax.specs.Expressions.{none_of, nil_of, single, snoc, opt, rep, after, before, sign_, keyword_, name, a_test, tests, targets, parameters_in_parentheses}
 
@@ -43,24 +43,24 @@ abbrev pub is_end : TokenValue → Option (Unit {0})
 is_end word.End = Some tt
 is_end _ = None
 
-abbrev pub newline : G sorts.nothing
-newline = one (λ t. is_newline t.word)
+abbrev pub newline : Part sorts.nothing
+newline = terminal (λ t. is_newline t.word)
 
-abbrev pub indent : G sorts.nothing
-indent = one (λ t. is_indent t.word)
+abbrev pub indent : Part sorts.nothing
+indent = terminal (λ t. is_indent t.word)
 
-abbrev pub outdent : G sorts.nothing
-outdent = one (λ t. is_outdent t.word)
+abbrev pub outdent : Part sorts.nothing
+outdent = terminal (λ t. is_outdent t.word)
 
-abbrev pub end : G sorts.nothing
-end = one (λ t. is_end t.word)
+abbrev pub end : Part sorts.nothing
+end = terminal (λ t. is_end t.word)
 
 abbrev pub literal_of : Position → TokenValue → Option Literal
 literal_of position (word.Text text) = Some (record { text = text; position = position })
 literal_of position _ = None
 
-abbrev pub literal : G sorts.literal
-literal = one (λ t. literal_of t.position t.word)
+abbrev pub literal : Part sorts.literal
+literal = terminal (λ t. literal_of t.position t.word)
 
 -- AugOp: the sign before its `=`
 abbrev pub augmenting_sign : Punctuator → Option BinaryOperator
@@ -80,8 +80,8 @@ abbrev pub augmenting_word : TokenValue → Option BinaryOperator
 augmenting_word (word.Punctuator sign) = augmenting_sign sign
 augmenting_word _ = None
 
-abbrev pub augmenting : G sorts.binary
-augmenting = one (λ t. augmenting_word t.word)
+abbrev pub augmenting : Part sorts.binary
+augmenting = terminal (λ t. augmenting_word t.word)
 
 -- ---- the values of productions
 
@@ -120,14 +120,15 @@ abbrev pub augment_of : Option Target → BinaryOperator → Expression → Opti
 augment_of None operator value = None
 augment_of (Some target) operator value = Some (f.Augment target operator value)
 
--- an expression, or an assignment: before `=` is a target, before another sign a name or an index
-abbrev pub told_with : Expression → Option BinaryOperator → Expression → Option Form
-told_with left None value = assign_of (target_of left) value
-told_with left (Some operator) value = augment_of (augmented_of left) operator value
+-- an assignment: before `=` is a target, before another sign a name or an index
+abbrev pub assignment_of : Expression → Option BinaryOperator → Expression → Option Form
+assignment_of left None value = assign_of (target_of left) value
+assignment_of left (Some operator) value = augment_of (augmented_of left) operator value
 
-abbrev pub told_of : Expression × Option (Option BinaryOperator × Expression) → Option Form
-told_of (left, None) = Some (f.Expression left)
-told_of (left, Some (operator, value)) = told_with left operator value
+-- an expression, or an assignment
+abbrev pub expression_or_assignment_of : Expression × Option (Option BinaryOperator × Expression) → Option Form
+expression_or_assignment_of (left, None) = Some (f.Expression left)
+expression_or_assignment_of (left, Some (operator, value)) = assignment_of left operator value
 
 abbrev pub arm_of : Expression × List Statement → Arm
 arm_of p = roll-Arm (record { condition = p.0; body = p.1 })
@@ -145,134 +146,134 @@ def_of p = f.Def p.0 p.1.0 p.1.1
 -- ---- small statements
 
 -- 'return' [Tests]
-unfoldable pub returned : G sorts.form
+unfoldable pub returned : Part sorts.form
 returned = act f.Return (after (keyword_ k.Return) (opt tests))
 
 -- [name '=']
-unfoldable pub local : G (maybe sorts.name)
+unfoldable pub local : Part (maybe sorts.name)
 local = opt (before name (sign_ s.Assign))
 
 -- [name '='] string
-unfoldable pub loaded : G sorts.loaded
+unfoldable pub loaded : Part sorts.loaded
 loaded = when loaded_of (seq local literal)
 
 -- ',' [name '='] string
-unfoldable pub next_loaded : G sorts.loaded
+unfoldable pub next_loaded : Part sorts.loaded
 next_loaded = after (sign_ s.Comma) loaded
 
 -- {',' [name '='] string}
-unfoldable pub all_loaded : G (list sorts.loaded)
+unfoldable pub all_loaded : Part (list sorts.loaded)
 all_loaded = rep next_loaded
 
 -- '(' string {',' [name '='] string} [','] ')'
-unfoldable pub loads : G (both sorts.literal (list sorts.loaded))
+unfoldable pub loads : Part (both sorts.literal (list sorts.loaded))
 loads = after (sign_ s.LeftParen) (before (seq literal (before all_loaded (opt (sign_ s.Comma)))) (sign_ s.RightParen))
 
 -- Load = 'load' '(' string {',' [name '='] string} [','] ')'
-unfoldable pub load : G sorts.form
+unfoldable pub load : Part sorts.form
 load = act load_of (after (keyword_ k.Load) loads)
 
 -- '=' | AugOp
-unfoldable pub assigning : G (maybe sorts.binary)
+unfoldable pub assigning : Part (maybe sorts.binary)
 assigning = alt (act none_of (sign_ s.Assign)) (act Some augmenting)
 
 -- ('=' | AugOp) Tests
-unfoldable pub right_side : G (both (maybe sorts.binary) sorts.expression)
+unfoldable pub right_side : Part (both (maybe sorts.binary) sorts.expression)
 right_side = seq assigning tests
 
 -- Tests | Tests '=' Tests | Tests AugOp Tests
-unfoldable pub told : G sorts.form
-told = when told_of (seq tests (opt right_side))
+unfoldable pub expression_or_assignment : Part sorts.form
+expression_or_assignment = when expression_or_assignment_of (seq tests (opt right_side))
 
 -- 'break' | 'continue' | 'pass'
-unfoldable pub keyword_form : G sorts.form
+unfoldable pub keyword_form : Part sorts.form
 keyword_form =
     alt (act break_of (keyword_ k.Break)) (alt (act continue_of (keyword_ k.Continue)) (act pass_of (keyword_ k.Pass)))
 
 -- Small = 'return' [Tests] | 'break' | 'continue' | 'pass' | Load | Tests | Tests '=' Tests | Tests AugOp Tests
-unfoldable pub small_form : G sorts.form
-small_form = alt returned (alt keyword_form (alt load told))
+unfoldable pub small_form : Part sorts.form
+small_form = alt returned (alt keyword_form (alt load expression_or_assignment))
 
-unfoldable pub small : G sorts.statement
+unfoldable pub small : Part sorts.statement
 small = act statement_of (placed small_form)
 
 -- ';' Small
-unfoldable pub next_small : G sorts.statement
+unfoldable pub next_small : Part sorts.statement
 next_small = after (sign_ s.Semicolon) small
 
 -- Small {';' Small}
-unfoldable pub smalls : G (list sorts.statement)
-smalls = fold snoc (act single small) next_small
+unfoldable pub small_statements : Part (list sorts.statement)
+small_statements = fold snoc (act single small) next_small
 
 -- Simple = Small {';' Small} [';'] NEWLINE
-unfoldable pub simple : G (list sorts.statement)
-simple = before smalls (seq (opt (sign_ s.Semicolon)) newline)
+unfoldable pub simple : Part (list sorts.statement)
+simple = before small_statements (seq (opt (sign_ s.Semicolon)) newline)
 
 -- ---- statements that hold others
 
 -- Statement {Statement}
-unfoldable pub body : G (list sorts.statement)
-body = fold append (the statement) (the statement)
+unfoldable pub body : Part (list sorts.statement)
+body = fold append (nonterminal statement) (nonterminal statement)
 
 -- NEWLINE INDENT Statement {Statement} OUTDENT
-unfoldable pub block : G (list sorts.statement)
+unfoldable pub block : Part (list sorts.statement)
 block = after newline (after indent (before body outdent))
 
 -- Suite = Simple | NEWLINE INDENT Statement {Statement} OUTDENT
-unfoldable pub suite : G (list sorts.statement)
+unfoldable pub suite : Part (list sorts.statement)
 suite = alt simple block
 
 -- ':' Suite
-unfoldable pub colon_suite : G (list sorts.statement)
+unfoldable pub colon_suite : Part (list sorts.statement)
 colon_suite = after (sign_ s.Colon) suite
 
 -- Test ':' Suite
-unfoldable pub arm : G sorts.arm
+unfoldable pub arm : Part sorts.arm
 arm = act arm_of (seq a_test colon_suite)
 
 -- 'elif' Test ':' Suite
-unfoldable pub next_arm : G sorts.arm
+unfoldable pub next_arm : Part sorts.arm
 next_arm = after (keyword_ k.Elif) arm
 
 -- 'if' Test ':' Suite
-unfoldable pub first_arm : G sorts.arm
+unfoldable pub first_arm : Part sorts.arm
 first_arm = after (keyword_ k.If) arm
 
 -- 'if' Test ':' Suite {'elif' Test ':' Suite}
-unfoldable pub arms : G (list sorts.arm)
+unfoldable pub arms : Part (list sorts.arm)
 arms = fold snoc (act single first_arm) next_arm
 
 -- 'else' ':' Suite
-unfoldable pub otherwise : G (list sorts.statement)
+unfoldable pub otherwise : Part (list sorts.statement)
 otherwise = after (keyword_ k.Else) colon_suite
 
 -- If = 'if' Test ':' Suite {'elif' Test ':' Suite} ['else' ':' Suite]
-unfoldable pub condition : G sorts.form
+unfoldable pub condition : Part sorts.form
 condition = act if_of (seq arms (opt otherwise))
 
 -- For = 'for' Targets 'in' Tests ':' Suite
-unfoldable pub iteration : G sorts.form
+unfoldable pub iteration : Part sorts.form
 iteration = act for_of (after (keyword_ k.For) (seq targets (after (keyword_ k.In) (seq tests colon_suite))))
 
 -- Def = 'def' name '(' [Params [',']] ')' ':' Suite
-unfoldable pub definition : G sorts.form
+unfoldable pub definition : Part sorts.form
 definition = act def_of (after (keyword_ k.Def) (seq name (seq parameters_in_parentheses colon_suite)))
 
 -- Def | If | For
-unfoldable pub compound_form : G sorts.form
+unfoldable pub compound_form : Part sorts.form
 compound_form = alt definition (alt condition iteration)
 
-unfoldable pub compound : G sorts.statement
+unfoldable pub compound : Part sorts.statement
 compound = act statement_of (placed compound_form)
 
 -- Statement = Def | If | For | Simple
-unfoldable pub one_statement : G (list sorts.statement)
+unfoldable pub one_statement : Part (list sorts.statement)
 one_statement = alt (act single compound) simple
 
 -- {Statement}
-unfoldable pub statements : G (list sorts.statement)
-statements = fold append (act nil_of empty) (the statement)
+unfoldable pub statements : Part (list sorts.statement)
+statements = fold append (act nil_of empty) (nonterminal statement)
 
 -- File = {Statement} END
-unfoldable pub file : G (list sorts.statement)
+unfoldable pub file : Part (list sorts.statement)
 file = before statements end

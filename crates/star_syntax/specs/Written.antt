@@ -28,7 +28,7 @@ use Rattle.star_tree.specs.declared.tree.Clauses.{Clauses, roll-Clauses}
 use Rattle.star_tree.specs.declared.tree.Clause.{Clause}
 use Rattle.star_tree.specs.declared.tree.Clause.TheVariants as clauses
 use Rattle.star_syntax.specs.Sorts as sorts
-use Rattle.star_syntax.specs.Grammar.{level, the, Reads}
+use Rattle.star_syntax.specs.Grammar.{level, nonterminal, Reads}
 use Rattle.star_syntax.specs.Keeps.{arguments_in_order, parameters_in_order, target_of}
 use Rattle.star_syntax.specs.Language.{rule}
 
@@ -284,4 +284,4 @@ mutual
 abbrev pub ReadsBack : Type 0
 ReadsBack =
     (x : Expression) (ts us : List ValuedToken) → Written x ts us → Stops us
-    → Reads rule sorts.expression (the (level levels.Test)) ts (Some (x, us))
+    → Reads rule sorts.expression (nonterminal (level levels.Test)) ts (Some (x, us))

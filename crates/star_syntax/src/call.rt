@@ -219,10 +219,10 @@ impl<F: Fn(Global, u128, Level, &[ValuedToken]) -> Read<'_, Boxed<Expression>>> 
     }
 
     /// `[Args [',']]`
-    #[tactic(auto, unfolding(crate::specs::Expressions::given))]
-    fn given<'a>(&self, leaves: &'a [ValuedToken]) -> Read<'a, Items<Argument>>
+    #[tactic(auto, unfolding(crate::specs::Expressions::optional_arguments))]
+    fn optional_arguments<'a>(&self, leaves: &'a [ValuedToken]) -> Read<'a, Items<Argument>>
         requires { Nests self.now.depth (F.pre self.now.expression) (F.post self.now.expression) }
-        ensures { Gives (reads self.now.depth spec.given leaves.now) result }
+        ensures { Gives (reads self.now.depth spec.optional_arguments leaves.now) result }
     {
         let Some((found, rest)) = self.ordered_arguments(leaves)? else {
             return Ok(Some((Items::new(self.alloc), leaves)));
@@ -242,7 +242,7 @@ impl<F: Fn(Global, u128, Level, &[ValuedToken]) -> Read<'_, Boxed<Expression>>> 
         let Some((_, rest)) = sign(Punctuator::LeftParen, leaves) else {
             return Ok(None);
         };
-        let Some((found, rest)) = self.given(rest)? else {
+        let Some((found, rest)) = self.optional_arguments(rest)? else {
             return Ok(None);
         };
         let Some((_, rest)) = sign(Punctuator::RightParen, rest) else {
@@ -371,10 +371,10 @@ impl<F: Fn(Global, u128, Level, &[ValuedToken]) -> Read<'_, Boxed<Expression>>> 
     }
 
     /// `[Params [',']]`
-    #[tactic(auto, unfolding(crate::specs::Expressions::taken))]
-    fn taken<'a>(&self, leaves: &'a [ValuedToken]) -> Read<'a, Items<Parameter>>
+    #[tactic(auto, unfolding(crate::specs::Expressions::optional_parameters))]
+    fn optional_parameters<'a>(&self, leaves: &'a [ValuedToken]) -> Read<'a, Items<Parameter>>
         requires { Nests self.now.depth (F.pre self.now.expression) (F.post self.now.expression) }
-        ensures { Gives (reads self.now.depth spec.taken leaves.now) result }
+        ensures { Gives (reads self.now.depth spec.optional_parameters leaves.now) result }
     {
         let Some((found, rest)) = self.ordered_parameters(leaves)? else {
             return Ok(Some((Items::new(self.alloc), leaves)));
@@ -397,7 +397,7 @@ impl<F: Fn(Global, u128, Level, &[ValuedToken]) -> Read<'_, Boxed<Expression>>> 
         let Some((_, rest)) = sign(Punctuator::LeftParen, leaves) else {
             return Ok(None);
         };
-        let Some((found, rest)) = self.taken(rest)? else {
+        let Some((found, rest)) = self.optional_parameters(rest)? else {
             return Ok(None);
         };
         let Some((_, rest)) = sign(Punctuator::RightParen, rest) else {

@@ -63,7 +63,7 @@ pub fn parameters_at(
     grammar!(alloc, depth).parameters_in_parentheses(leaves)
 }
 
-/// Targets, as those of a loop.
+/// Targets, as in a loop.
 pub fn targets_at(alloc: Global, depth: u128, leaves: &[ValuedToken]) -> Read<'_, Boxed<Target>>
     ensures { Gives (reads depth spec.targets leaves.now) result }
 {

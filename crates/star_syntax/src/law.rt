@@ -29,7 +29,7 @@ pub fn read_in_order()
     ensures { ReadInOrder }
 {}
 
-/// So have the statements of each reading of a file, with all of their parts. (`docs/LANGUAGE.md`, "Grammar".)
+/// The statements of each reading of a file have them so too, with all of their parts. (`docs/LANGUAGE.md`, "Grammar".)
 pub fn tree_in_order()
     ensures { TreeInOrder }
 {}

@@ -37,7 +37,7 @@ pub struct ValuedToken {
     pub position: Position,
 }
 
-/// Names are ASCII and the values of strings are UTF-8. Were they not, the answer would be that of want of memory.
+/// Names are ASCII and the values of strings are UTF-8. Were they not, the answer would be as for want of memory.
 fn text_of(bytes: Vec<u8>) -> Result<Text, AllocError>
     ensures { IfOk result (λ text. text ≡ bytes.items) }
 {

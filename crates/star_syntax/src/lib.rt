@@ -7,7 +7,8 @@
 //! defines once how a table spells and reads tokens, so each function here has one short contract: it answers the
 //! reading of its line of the table.
 //!
-//! - `leaf` turns tokens into leaves. A `ValuedToken` is a token with its value and its position; the readers go over leaves.
+//! - `leaf` turns tokens into leaves. A `ValuedToken` is a token with its value and its position. The readers go over
+//!   leaves.
 //! - `reader` has `Read`, the answer of every reader (a tree and the leaves after it; nothing, if its production is not
 //!   there; or want of memory), and `Grammar`, the readers' state: how deep expressions may still nest.
 //! - `operators`, `primary`, `display` and `call` are the readers, a function for each production, which is written

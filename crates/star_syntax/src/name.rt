@@ -3,7 +3,7 @@
 ghost use Rattle.std.specs.Prelude.{◌≡◌};
 ghost use Rattle.star_syntax.specs.Names as spec;
 
-use star_lex::cut::keyword;
+use star_lex::scan::keyword;
 
 fn is_word(text: &[u8]) -> bool
     ensures { result ≡ spec.is_word text.now }

@@ -213,10 +213,10 @@ impl<F: Fn(Global, u128, Level, &[ValuedToken]) -> Read<'_, Boxed<Expression>>> 
     }
 
     /// `('+' | '-' | '~') Unary`
-    #[tactic(auto, unfolding(crate::specs::Expressions::signed))]
-    fn signed<'a>(&self, leaves: &'a [ValuedToken]) -> Read<'a, Boxed<Expression>>
+    #[tactic(auto, unfolding(crate::specs::Expressions::sign_operand))]
+    fn sign_operand<'a>(&self, leaves: &'a [ValuedToken]) -> Read<'a, Boxed<Expression>>
         requires { Nests self.now.depth (F.pre self.now.expression) (F.post self.now.expression) }
-        ensures { Gives (reads self.now.depth spec.signed leaves.now) result }
+        ensures { Gives (reads self.now.depth spec.sign_operand leaves.now) result }
     {
         let Some((operator, rest)) = unary_operator(leaves) else {
             return Ok(None);
@@ -233,7 +233,7 @@ impl<F: Fn(Global, u128, Level, &[ValuedToken]) -> Read<'_, Boxed<Expression>>> 
         requires { Nests self.now.depth (F.pre self.now.expression) (F.post self.now.expression) }
         ensures { Gives (reads self.now.depth spec.unary leaves.now) result }
     {
-        if let Some(found) = self.signed(leaves)? {
+        if let Some(found) = self.sign_operand(leaves)? {
             return Ok(Some(found));
         }
         self.primary(leaves)
@@ -317,10 +317,10 @@ impl<F: Fn(Global, u128, Level, &[ValuedToken]) -> Read<'_, Boxed<Expression>>> 
     }
 
     /// `'not' Not`
-    #[tactic(auto, unfolding(crate::specs::Expressions::denied))]
-    fn denied<'a>(&self, leaves: &'a [ValuedToken]) -> Read<'a, Boxed<Expression>>
+    #[tactic(auto, unfolding(crate::specs::Expressions::not_operand))]
+    fn not_operand<'a>(&self, leaves: &'a [ValuedToken]) -> Read<'a, Boxed<Expression>>
         requires { Nests self.now.depth (F.pre self.now.expression) (F.post self.now.expression) }
-        ensures { Gives (reads self.now.depth spec.denied leaves.now) result }
+        ensures { Gives (reads self.now.depth spec.not_operand leaves.now) result }
     {
         let Some((_, rest)) = keyword(Keyword::Not, leaves) else {
             return Ok(None);
@@ -337,7 +337,7 @@ impl<F: Fn(Global, u128, Level, &[ValuedToken]) -> Read<'_, Boxed<Expression>>> 
         requires { Nests self.now.depth (F.pre self.now.expression) (F.post self.now.expression) }
         ensures { Gives (reads self.now.depth spec.negation leaves.now) result }
     {
-        if let Some(found) = self.denied(leaves)? {
+        if let Some(found) = self.not_operand(leaves)? {
             return Ok(Some(found));
         }
         self.comparison(leaves)

@@ -169,7 +169,7 @@ fn closes(sign: Punctuator) -> bool
     }
 }
 
-/// Whether no expression goes on with the word.
+/// Whether the word continues no expression.
 fn ends(word: &TokenValue) -> bool
     ensures { result ≡ true → EndsBefore word.now }
 {

@@ -12,7 +12,7 @@ use Rattle.star_tree.specs.declared.tree.Position.{Position}
 use Rattle.star_tree.specs.declared.tree.Statement.{Statement}
 use Rattle.star_trail.specs.Trails.{bodies, within_form}
 
--- what the body of an arm has is of the bodies
+-- the statements in the body of an arm are in the bodies
 pub in_bodies : (arms : List Arm) (i : ℕ) (a : Arm) (s : Statement) → slice_get arms i ≡ Some a → Contains (out-Arm a).body s → Contains (bodies arms) s
 in_bodies [] i a s e h = absurd (none-some a e)
 in_bodies (b ∷ arms) zero a s e h =
@@ -20,7 +20,7 @@ in_bodies (b ∷ arms) zero a s e h =
 in_bodies (b ∷ arms) (suc i) a s e h =
     Contains-append_right (out-Arm b).body (bodies arms) s (in_bodies arms i a s e h)
 
--- what an `if` has directly within it
+-- the statements that an `if` has directly within it
 pub within_if : (f : Form) (arms : List Arm) (otherwise : List Statement) (s : Statement) → f ≡ v.If arms otherwise
     → Contains (bodies arms ++ otherwise) s → Contains (within_form (out-Form f)) s
 within_if f arms otherwise s is h =

@@ -1,2 +1,2 @@
--- Trails says which steps may be told of a fault.
+-- Trails says which steps of a fault a message may have.
 pub mod Trails

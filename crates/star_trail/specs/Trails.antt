@@ -25,7 +25,7 @@ within_form _ = []
 abbrev pub within : Statement → List Statement
 within s = within_form (form_of s)
 
--- a statement of a file: one of its own, or one directly within another
+-- a statement of a file: at the outermost level, or directly within another statement
 pub data IsStatementOf (own : List Statement) : Statement → Type 0 where
   outermost : {s : Statement} → Contains own s → IsStatementOf own s
   inner : {s t : Statement} → IsStatementOf own s → Contains (within s) t → IsStatementOf own t
@@ -45,7 +45,7 @@ statements_read None = None
 abbrev pub statements_in : Row → ℕ → Option (List Statement)
 statements_in row file = statements_read (read_at row file)
 
--- a step that is a statement is one of the file that it names
+-- a step that is a statement is a statement of the file that it names
 abbrev pub IsStep : Row → Step → Type 0
 IsStep row (step.Statement file line token) =
     (own : List Statement) × (statements_in row file ≡ Some own) × Begins own line token

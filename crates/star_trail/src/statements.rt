@@ -36,7 +36,8 @@ fn body_at(arms: &[Arm], token: usize) -> &[Statement]
     }
 }
 
-/// The block directly within a statement in which a statement may begin at a token; no statements if there is none.
+/// The block directly within a statement where a statement may begin at a token; no statements if there is no such
+/// block.
 fn block_at(statement: &Statement, token: usize) -> &[Statement]
     ensures { (s : Statement) → Contains result.now s → Contains (within statement.now) s }
 {

@@ -1,4 +1,4 @@
-//! The trail that a person is told.
+//! The trail for a person.
 
 ghost use Rattle.std.specs.Prelude.{◌≡◌, All, MatchOption, Some, None, true};
 ghost use Rattle.star_trail.specs.Trails.{IsStep, statements_in};
@@ -19,7 +19,7 @@ fn statements_of<'r>(reads: &'r Reads<'_>, file: usize) -> Option<&'r [Statement
     }
 }
 
-/// Whether a step that is a statement is one of the file that it names.
+/// Whether a step that is a statement is a statement of the file that it names.
 fn is_there(reads: &Reads, step: Step) -> bool
     ensures { result ≡ true → IsStep reads.now.all.items step }
 {
@@ -32,7 +32,7 @@ fn is_there(reads: &Reads, step: Step) -> bool
     }
 }
 
-/// Whether each step that is a statement is one of the file that it names.
+/// Whether each step that is a statement is a statement of the file that it names.
 fn are_there(reads: &Reads, steps: &[Step]) -> bool
     ensures { result ≡ true → All (IsStep reads.now.all.items) steps.now }
 {
@@ -44,8 +44,8 @@ fn are_there(reads: &Reads, steps: &[Step]) -> bool
     true
 }
 
-/// The steps that a fault has left, for a person: all of them if each statement among them is one of the file that it
-/// names, else none. A run leaves no others, as tests show.
+/// The steps that a fault has left, for a person: all of them if each statement among them is a statement of the file
+/// that it names, else none. Tests show that a run leaves no others.
 pub fn steps_there<'s>(reads: &Reads, steps: &'s [Step]) -> &'s [Step]
     ensures { All (IsStep reads.now.all.items) result.now }
 {

@@ -75,13 +75,13 @@ pub enum Expression {
     Tuple(Items<Expression>),
     List(Items<Expression>),
     Dict(Items<Entry>),
-    /// `[element for ..]`; the position is that of the bracket.
+    /// `[element for ..]`; the position is the bracket's.
     ListComprehension {
         position: Position,
         element: Boxed<Expression>,
         clauses: Boxed<Clauses>,
     },
-    /// `{key: value for ..}`; the position is that of the brace.
+    /// `{key: value for ..}`; the position is the brace's.
     DictComprehension {
         position: Position,
         entry: Boxed<Entry>,
@@ -115,7 +115,7 @@ pub enum Expression {
         chosen: Boxed<Expression>,
         otherwise: Boxed<Expression>,
     },
-    /// The position is that of `lambda`.
+    /// The position is the position of `lambda`.
     Lambda {
         position: Position,
         parameters: Boxed<Items<Parameter>>,

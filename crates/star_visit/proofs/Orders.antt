@@ -24,7 +24,7 @@ order_paid look levels x y n deep paid =
     let rich : nat_lt n 1 ≡ false = grind arith in
     order_at look levels x y n deep ∙ ap (λ b. if b then Lacks Steps n else order_values look (same look (levels - 1)) (order look (levels - 1)) x y (n - 1)) rich
 
--- and that of two rows is the order of their items
+-- and the order of two rows is the order of their items
 pub order_rows : (look : Value → Option Cell) (levels : ℕ) (x y : Value) (n : ℕ) (xs ys : List Value) (r : Result Ordering StoreFault) (left : ℕ) → 0 < levels → 1 ≤ n
     → Spends (ordered_items look (levels - 1) xs ys (n - 1)) r left
     → order_values look (same look (levels - 1)) (order look (levels - 1)) x y (n - 1) ≡ ordered_items look (levels - 1) xs ys (n - 1) → Spends (order look levels x y n) r left

@@ -565,7 +565,7 @@ fn put_char(out: &mut String, c: char) -> Result<(), AllocError>
     }
 }
 
-/// Puts a character that has no letter after a backslash.
+/// Puts a character as itself, or, below 32 and at 127, by `\x` and two lower-case hexadecimal digits.
 fn put_plain(out: &mut String, c: char) -> Result<(), AllocError>
     ensures { OnOk result (string_bytes out.new ≡ string_bytes out.old ++ plain_char c) }
 {

@@ -29,7 +29,7 @@ are_more ls ms ts t same more m = (
   ])),
 )
 
--- .. and the text is that of the next word
+-- .. and the text is the next word
 pub all_next : (words : List (String Global)) (i : ℕ) (word : String Global) → i < length words → word ≡ get_or words i word → AllLabels (texts_of (take i words)) → is_label (string_bytes word) ≡ true → AllLabels (texts_of (take (i + 1) words))
 all_next words i word low at all is = subst AllLabels (sym (texts_more words i word low at)) (all_more (texts_of (take i words)) (string_bytes word) all is)
 

@@ -66,7 +66,7 @@ walked here path top gs there o none goes leads h =
     let e : led_by (folders_of top) (parts here) ≡ Some (folders_of gs) = subst (λ b. Leads (led_by (folders_of top) (parts here)) b (folders_of gs)) goes leads in
     leads_to here path (folders_of gs) o (subst (λ (fs : List (Bor (List ℕ))). led_by (folders_of fs) (parts here) ≡ Some (folders_of gs)) none e) h
 
--- .. and so did the walk by the path, to folders of which the last is the name
+-- .. and so did the walk by the path, to folders whose last one is the name
 pub walked_to_name : (here path : List ℕ) (top gs hs fs : List (Bor (List ℕ))) (n : Bor (List ℕ)) (there down : Bool) → top ≡ [] → there ≡ true → Leads (led_by (folders_of top) (parts here)) there (folders_of gs) → down ≡ true → Leads (led_by (folders_of gs) (parts path)) down (folders_of hs) → hs ≡ fs ++ n ∷ []
     → label_of_path here path ≡ (if list_all is_segment (folders_of fs) && is_segment n.now then Some (label_text (joined (folders_of fs)) n.now) else None)
 walked_to_name here path top gs hs fs n there down none goes leads goes_down leads_down is =

@@ -6,11 +6,11 @@ use Rattle.star_words.specs.Named.{labels_of, texts_of}
 use Rattle.star_words.specs.Rows.{IsIn}
 use Rattle.star_words.specs.declared.walk.Walk.{Walk}
 
--- the path is that of a folder, or leads further down
+-- the path leads to the folder, or further down
 abbrev pub IsInside : List ℕ → List ℕ → Type 0
 IsInside top path = (path ≡ top) ⊎ ((rest : List ℕ) × (path ≡ with_folder top rest))
 
--- the label is that of a file in the folder or further down, and the pattern matches its name
+-- the label is the label of a file in the folder or further down, and the pattern matches the name of the file
 abbrev pub IsFileBelow : List ℕ → List ℕ → List ℕ → Type 0
 IsFileBelow top pattern label =
     (path : List ℕ) × (name : List ℕ) × (label ≡ label_text path name) × IsInside top path × Matches pattern name

@@ -32,7 +32,7 @@ OneIsNone texts = (t : List ℕ) × IsIn t texts × (is_label t ≡ false)
 abbrev pub AreLabels : List (List ℕ) → Option (List ℕ) → Type 0
 AreLabels roots prelude = AllLabels roots × ((p : List ℕ) → prelude ≡ Some p → is_label p ≡ true)
 
--- these are the labels of the roots, and that of the prelude
+-- these are the labels of the roots and the label of the prelude
 pub record AreAsked (roots : List (List ℕ)) (prelude : Option (List ℕ)) (labels : List (List ℕ)) : Type 0 where
   pub are : AreLabels roots prelude
   pub labels_are : (l : List ℕ) → IsIn l labels ↔ (IsIn l roots ⊎ (prelude ≡ Some l))
@@ -45,8 +45,8 @@ IsMisnamed roots prelude BadPrelude =
 IsMisnamed roots prelude Memory = ⊤
 IsMisnamed roots prelude e = ⊥
 
--- the label that a word names in the package `here`: itself, if the word reads as a label; else the label of the file
--- to which it leads as a path, if any
+-- the label that a word names in the package `here`: itself, if the word reads as a label, or else the label of the
+-- file that it leads to as a path, if there is one
 abbrev pub Names : List ℕ → List ℕ → Option (List ℕ) → Type 0
 Names here word found =
     ((p n : List ℕ) → Reads here word p n → found ≡ Some (label_text p n))

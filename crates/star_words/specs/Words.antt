@@ -13,12 +13,12 @@ stays p = bytes_eq p [] || bytes_eq p (46 ∷ [])
 abbrev pub goes_up : List ℕ → Bool
 goes_up p = bytes_eq p (46 ∷ 46 ∷ [])
 
--- the folders but the last; there is nothing above the top
+-- The folders without the last one. There is nothing above the top.
 abbrev pub above : List (List ℕ) → Option (List (List ℕ))
 above [] = None
 above (f ∷ fs) = Some (take (length (f ∷ fs) - 1) (f ∷ fs))
 
--- the folder to which a part of a path leads from the one that these folders lead to, from the top down
+-- the folder that a part of a path leads to, if it begins where these folders lead, from the top down
 abbrev pub led : List (List ℕ) → List ℕ → Option (List (List ℕ))
 led fs p = if stays p then Some fs else (if goes_up p then above fs else Some (fs ++ p ∷ []))
 
@@ -46,7 +46,7 @@ Leads given false folders = given ≡ None
 abbrev pub folders_of : List (Bor (List ℕ)) → List (List ℕ)
 folders_of fs = map (λ f. f.now) fs
 
--- the label that a word names as a path; one that begins with a slash is not below the top
+-- The label that a word names as a path. A path that begins with a slash is not below the top.
 abbrev pub path_named : List ℕ → List ℕ → Option (List ℕ)
 path_named here [] = label_of_path here []
 path_named here (b ∷ bs) = if b == 47 then None else label_of_path here (b ∷ bs)

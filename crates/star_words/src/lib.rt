@@ -4,8 +4,8 @@
 //!   path that it is.
 //! - `named::asked_labels` are the labels of the roots and of the prelude, or the refusal of the first word that names
 //!   none.
-//! - `pattern::files_below` are the labels of all files below a folder, for words such as `//app/...`; `Listing` is the
-//!   trait of the folder that it lists, `glob` matches names against `*` and `?`.
+//! - `pattern::files_below` are the labels of all files below a folder, for words such as `//app/...`. `Listing` is the
+//!   trait of the folder that it lists, and `glob` matches names against `*` and `?`.
 //!
 //! Begin at `words.rt`. `Label` (`star_label`) is the type of all results. The promises are in the contracts of these
 //! functions, by `specs/Words`, `Named`, `Below` and `Glob`.

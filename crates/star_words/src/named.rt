@@ -25,7 +25,7 @@ fn add_label(alloc: Global, labels: &mut BTreeSet<Label>, text: &str) -> Result<
     Ok(true)
 }
 
-/// The labels of roots; `None` if one is not a label in normal form.
+/// The labels of roots. `None` if one is not a label in normal form.
 fn root_labels(alloc: Global, roots: &[String]) -> Result<Option<BTreeSet<Label>>, AllocError>
     ensures { IfOk result (λ labels. MatchOption labels (OneIsNone (texts_of roots.now))
         (λ set. AreLabelsOf (texts_of roots.now) (labels_of set.keys))) }
@@ -39,7 +39,7 @@ fn root_labels(alloc: Global, roots: &[String]) -> Result<Option<BTreeSet<Label>
     Ok(Some(labels))
 }
 
-/// The labels that a run is asked for: those of its roots, and that of its prelude. `BadRoot` if a root is not a label
+/// The labels that a run is asked for: the labels of its roots and of its prelude. `BadRoot` if a root is not a label
 /// in normal form, else `BadPrelude` if the prelude is not one.
 pub fn asked_labels(
     alloc: Global,

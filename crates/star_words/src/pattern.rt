@@ -23,7 +23,7 @@ const ENTRIES: usize = 1_000_000;
 
 /// A folder whose folders can be listed.
 pub trait Listing {
-    /// The entries of the folder at a path, by their names. The path has a slash between two folders; at the top it is
+    /// The entries of the folder at a path, by their names. The path has a slash between two folders. At the top it is
     /// empty.
     fn entries(&mut self, alloc: Global, path: &str) -> Result<BTreeMap<String, Kind>, FolderError>;
 }
@@ -54,7 +54,7 @@ pub fn label_below(alloc: Global, here: &str, front: &str) -> Result<Option<Labe
     label_of(alloc, from, file.as_str())
 }
 
-/// The label of a file in the folder at a path; `None` if its name is not a segment.
+/// The label of a file in the folder at a path. `None` if its name is not a segment.
 fn file_label(alloc: Global, path: &str, name: &str) -> Result<Option<Label>, AllocError>
     ensures { IfOk result (λ found. IfSome found (λ label. text_of label ≡ label_text path.now name.now)) }
 {

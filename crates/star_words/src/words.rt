@@ -88,7 +88,7 @@ fn label_below(alloc: Global, here: &str, path: &str) -> Result<Option<Label>, L
     label_of(alloc, here, path)
 }
 
-/// The texts of the labels that words name in the package `here`; `None` if one names no label.
+/// The texts of the labels that words name in the package `here`. `None` if one names no label.
 pub fn labels_of_words(
     alloc: Global,
     here: &str,

@@ -48,7 +48,7 @@ loaded_are p name h =
     ∙ ap (λ ns. has_name ns name) (h.4.loaded ∙ ap (λ ss. once (outline ss).loaded) (sym h.4.statements))
     ∙ same_once name (outline p.statements.now).loaded
 
--- the outline of a file among those of all
+-- the outline of a file among the outlines of all
 flat_outline : (o : Option (Option PlacedFile)) → option_flatten (option_map (option_map outline) (option_map (option_map (λ f. f.statements)) o)) ≡ option_map (λ f. outline f.statements) (option_flatten o)
 flat_outline None = refl
 flat_outline (Some None) = refl

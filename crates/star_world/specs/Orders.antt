@@ -17,9 +17,9 @@ use Rattle.star_world.specs.declared.layouts.Cursor.{Cursor}
 use Rattle.star_world.specs.declared.layouts.Stage.{Stage}
 use Rattle.star_world.specs.declared.layouts.Stage.TheVariants as stage
 
--- a layout of parameters: how many slots they have, how many of the first slots take positional values, and how many
--- defaults there are; the number of each slot's default, if it has one; the slots that need a value; and the slots of
--- `*name` and `**name`
+-- A layout of parameters: how many slots they have, how many of the first slots take positional values, and how many
+-- defaults there are. Also the number of each slot's default, if the slot has one, the slots that need a value, and the
+-- slots of `*name` and `**name`.
 pub record Layout : Type 0 where
   pub count : ℕ
   pub positional : ℕ
@@ -29,7 +29,7 @@ pub record Layout : Type 0 where
   pub rest : Option ℕ
   pub names : Option ℕ
 
--- whether a slot, if there is one, is that one
+-- whether there is a place, and it is this slot
 abbrev pub is_at : Option ℕ → ℕ → Bool
 is_at None i = false
 is_at (Some j) i = nat_eq j i
@@ -104,7 +104,7 @@ abbrev pub IsBelow : Option ℕ → ℕ → Type 0
 IsBelow None n = Unit {0}
 IsBelow (Some i) n = i < n
 
--- a layout of no other slots than those of the parameters
+-- a layout of no other slots than the slots of the parameters
 pub record IsBounded (l : Layout) : Type 0 where
   pub places : l.positional ≤ l.count
   pub ranks : length l.ranks ≤ l.count
@@ -115,7 +115,7 @@ pub record IsBounded (l : Layout) : Type 0 where
 abbrev pub AreLaidOut : Spots → Names → Layout → List Parameter → Type 0
 AreLaidOut spots names l ps = InOrder spots names l start ps × IsBounded l
 
--- so do those of the definition of a program with this number
+-- so are the parameters of the definition with this number in a program
 abbrev pub HasLayout : Program → ℕ → Layout → Type 0
 HasLayout p number l =
     (d : Definition) → definition_in p.definitions number ≡ Some d

@@ -13,7 +13,7 @@ pub record World : Type 0 where
   pub setting : Setting
   pub files : Files
 
--- the outlines that the setting has are those of the files
+-- the outlines that the setting has are the outlines of the files
 abbrev pub AreOutlined : Setting → Files → Type 0
 AreOutlined w files = w.outlines ≡ outlines (trees_of files)
 

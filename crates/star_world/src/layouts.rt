@@ -1,7 +1,7 @@
 //! `Layout`: how the parameters of a definition take the first slots of its frame.
 //!
-//! Slots are numbered in the order of the parameters by the resolver; no contract says so, and without a layout binding
-//! is only slower.
+//! The resolver numbers slots in the order of the parameters. No contract says so, and without a layout binding is only
+//! slower.
 
 ghost use Rattle.std.specs.Prelude.{◌≡◌, slice_get, IfOk, IfSome, IsTrue};
 ghost use Rattle.std.specs.Arc.{arc_slice_items};
@@ -89,8 +89,8 @@ impl Model for Layout {
 }
 
 impl Layout {
-    /// That of parameters whose slots are numbered in their order. A bare `*` has no slot. Whether the slots are so
-    /// numbered is not looked at.
+    /// The layout of parameters whose slots are numbered in their order. A bare `*` has no slot. Whether the slots are
+    /// numbered so is not checked.
     pub(crate) fn of(alloc: Global, parameters: &[Parameter]) -> Result<Layout, AllocError> {
         let mut sketch = Sketch::new(alloc);
         for parameter in parameters {
@@ -127,7 +127,7 @@ impl Layout {
         self.ranks.clone()
     }
 
-    /// The number of a slot's default, none inside if it has none.
+    /// The number of a slot's default. The inner one is `None` if the slot has no default.
     pub(crate) fn rank(&self, slot: usize) -> Option<Option<usize>>
         ensures { result ≡ slice_get self.now.ranks slot }
     {
@@ -162,7 +162,7 @@ impl Layout {
         slot < self.count && !is_at(self.rest, slot) && !is_at(self.names, slot)
     }
 
-    /// Whether its slots are all among those of the parameters.
+    /// Whether its slots are all among the slots of the parameters.
     pub(crate) fn is_bounded(&self) -> bool
         ensures { IsTrue result → IsBounded self.now }
     {
@@ -173,7 +173,7 @@ impl Layout {
     }
 }
 
-/// Whether a slot, if there is one, is that one.
+/// Whether there is a place, and it is this slot.
 pub(crate) fn is_at(place: Option<usize>, slot: usize) -> bool
     ensures { result ≡ is_at place slot }
 {
@@ -205,7 +205,7 @@ struct Sketch {
 }
 
 impl Sketch {
-    /// That of no parameter.
+    /// The layout of no parameter.
     fn new(alloc: Global) -> Sketch {
         Sketch {
             positional: None,

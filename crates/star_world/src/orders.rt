@@ -18,7 +18,7 @@ use std::alloc::{AllocError, Global};
 use std::collections::BTreeMap;
 
 /// A definition with at most this many parameters gets its arguments one by one, without a layout.
-const FEW: usize = 16;
+const LAYOUT_ABOVE: usize = 16;
 
 /// The layout of a definition's parameters, and the names of the slots.
 #[derive(Clone, Copy)]
@@ -200,7 +200,7 @@ fn layout_at(
     ensures { IfOk result (λ o. IfSome o (HasLayout program.now number)) }
 {
     match program.definition(number) {
-        Some(definition) if definition.parameters.len() > FEW => layout_of(
+        Some(definition) if definition.parameters.len() > LAYOUT_ABOVE => layout_of(
             alloc,
             program,
             number,
@@ -217,7 +217,7 @@ pub struct Orders {
 }
 
 impl Orders {
-    /// Those of a program.
+    /// The layouts of a program.
     pub(crate) fn of(alloc: Global, program: &Program<'_>) -> Result<Orders, AllocError>
         ensures { IfOk result (λ orders. HaveLayouts program.now orders.layouts) }
     {
@@ -238,7 +238,7 @@ impl Orders {
         self.layouts.get(&number)
     }
 
-    /// Whether there is no such definition.
+    /// Whether there are no such definitions.
     pub(crate) fn is_empty(&self) -> bool
         ensures { IsTrue result ↔ (btree_map_len self.now.layouts ≡ 0) }
     {

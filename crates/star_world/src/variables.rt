@@ -1,4 +1,5 @@
-//! Reading and binding variables by their spots, and making frames. No name is looked up by its text.
+//! Reading and binding variables by their spots, and making frames. Only names of the prelude and of built-ins
+//! are looked up by their text.
 
 ghost use Rattle.std.specs.Prelude.{◌≡◌, ◌<◌, ◌+◌, ◌^◌, None, Some, length, map, slice_get, IfOk};
 ghost use Rattle.std.specs.Option.{option_and_then, option_copied};
@@ -25,7 +26,7 @@ use star_store::values::{BoxedFrame, Cell, Frame, Value};
 use star_tree::tree::Name;
 use std::alloc::{AllocError, Global};
 
-/// The frame to which a value leads; `None` for another value.
+/// The frame that a value leads to; `None` for another value.
 fn frame_at<'a>(machine: &'a Machine, setting: &'a Setting<'a>, value: Value) -> Option<&'a Frame>
     ensures { option_copied result ≡ frame_of (seen setting.now machine.now value) }
 {
@@ -272,7 +273,7 @@ fn frame_cell(
     Ok(Cell::Frame(BoxedFrame::new(alloc, frame)?))
 }
 
-/// A new frame of a block that is not paid for, as that of a file is. All names of the block are unbound in it.
+/// A new frame of a block that is not paid for, such as the frame of a file. All names of the block are unbound in it.
 #[tactic(auto, unfolding(star_meaning::specs::Places::new_slots))]
 pub fn new_frame(
     machine: &mut Machine,

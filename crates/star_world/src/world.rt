@@ -83,7 +83,7 @@ impl<'a, 't> World<'a, 't> {
         &self.setting
     }
 
-    /// The outlines of the setting are those of the files.
+    /// The outlines of the setting are the outlines of the files.
     pub fn are_outlined(&self)
         ensures { self.now.setting.outlines ≡ outlines (trees_of self.now.files) }
     {

@@ -31,12 +31,12 @@ HasFlag matches id = one_text (found_of matches) id ≡ Some (codes "true")
 abbrev pub LacksFlag : ArgMatches → List ℕ → Type 0
 LacksFlag matches id = one_text (found_of matches) id ≡ Some (codes "false")
 
--- a word writes a number in decimal digits and nothing more, but that a plus may come before them
+-- a word writes a number in decimal digits and nothing more, except that a plus may come before them
 abbrev pub Writes : List ℕ → ℕ → Type 0
 Writes word n = IsNumeral 10 (without_leading_plus word) × (digits_value 10 (without_leading_plus word) ≡ n)
 
--- n is the number that the value of an option writes, where it writes one within the bounds, and the other one where it
--- has no value
+-- if the value of an option writes a number within the bounds, n is this number, and if the option has no value, n is
+-- the other number
 abbrev pub IsNumberOf : Option (List ℕ) → ℕ → ℕ → ℕ → ℕ → Type 0
 IsNumberOf None low high other n = n ≡ other
 IsNumberOf (Some word) low high other n = (m : ℕ) → Writes word m → low ≤ m → m ≤ high → n ≡ m
@@ -49,7 +49,7 @@ pub record IsWanted (matches : ArgMatches) (wanted : Wanted) : Type 0 where
   pub only_roots : HasFlag matches (codes "only-roots") → wanted.only_roots ≡ true
   pub all : LacksFlag matches (codes "only-roots") → wanted.only_roots ≡ false
 
--- the check, which of what there is nothing against shows the roots alone by their flag
+-- the check: of the files with nothing against them it shows the roots alone if their flag is there
 abbrev pub IsCheckFor : ArgMatches → Output → Type 0
 IsCheckFor matches output =
     (HasFlag matches (codes "only-roots") → output ≡ Check true)
@@ -65,7 +65,7 @@ IsReportOrGlobal matches name output = ⊥
 abbrev pub IsOtherOutput : ArgMatches → Output → Type 0
 IsOtherOutput matches output = IsReportOrGlobal matches (first_value (found_of matches) (codes "get")) output
 
--- this holds unless a person is to be told: by `--explain`, or since standard error is a terminal
+-- this holds unless a message to a person is wanted: by `--explain`, or since standard error is a terminal
 abbrev pub UnlessTold : ArgMatches → Errors → Type 0 → Type 0
 UnlessTold matches errors P =
     is_named matches (codes "explain") (codes "always") ≡ false

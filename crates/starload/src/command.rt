@@ -11,7 +11,7 @@ use star_serve::serve::{Form, Options, Output, Wanted};
 use std::alloc::{AllocError, Global};
 
 /// The words of `--version` after the program's name: its version, and the kit that proved it.
-const VERSION: &str = "1.6.3 (rattle-kit-13f logic dac8208d650f15bf)";
+const VERSION: &str = "1.6.4 (rattle-kit-13f logic dac8208d650f15bf)";
 
 /// The end of the help, after the options.
 const EXAMPLE: &str =
@@ -211,7 +211,7 @@ fn with_input<'a>(alloc: Global, command: Command<'a>) -> Result<Command<'a>, Al
         .arg(match_arg(alloc)?)
 }
 
-/// Adds the options of what is written.
+/// Adds the options of the output.
 fn with_output<'a>(alloc: Global, command: Command<'a>) -> Result<Command<'a>, AllocError> {
     command
         .arg(with_arg(alloc))?
@@ -365,8 +365,8 @@ pub fn is_shown(matches: &ArgMatches<'_>, errors: Errors) -> bool
         || (is_named(matches, "progress", "auto") && errors.is_terminal && !errors.is_dumb)
 }
 
-/// How a person is told of what is at fault, by `--explain` and by whether standard error is a terminal. Files are named
-/// by their paths in the folder that has them.
+/// The form of the message that tells a person what is at fault, by `--explain` and by whether standard error is a
+/// terminal. Files are named by their paths in the folder that has them.
 fn form_of(matches: &ArgMatches<'_>, errors: Errors) -> Option<Form>
     ensures colored { IfSome result (λ f. f.is_colored ≡ spec.is_colored matches.now errors) }
     ensures none { spec.UnlessTold matches.now errors (result ≡ None) }

@@ -4,10 +4,10 @@
 //! those that the roots reach in one (`repo`). The report goes to standard output. After it, standard error tells a
 //! person what is at fault and where, if that is wanted (`docs/EXPLAIN.md`).
 //!
-//! `command` has the command line; `codes` prints the page of a fault's code. Begin at `main`, the last function. The
-//! exit status is that of `star_bundle::error::status`. An error before the run goes to standard error, with status 2.
-//! The rules are in `docs/REPORT.md` and `docs/FOLDERS.md`; `command::options` has the contract that says which options
-//! the arguments give.
+//! `command` has the command line, and `codes` prints the page of a fault's code. Begin at `main`, the last function.
+//! The exit status is the one of `star_bundle::error::status`. An error before the run goes to standard error, and the
+//! exit status is 2. The rules are in `docs/REPORT.md` and `docs/FOLDERS.md`. `command::options` has the contract that
+//! says which options the arguments give.
 #![tactic(auto)]
 
 ghost use Rattle.std.specs.Prelude.{◌≤◌};
@@ -65,7 +65,8 @@ fn words(rt: &HostRuntime) -> Result<Vec<String>, &'static str> {
     }
 }
 
-/// Says what `clap` found in the command line, its help among that. The version goes to standard output.
+/// Writes the message of `clap` about the command line, or its help, to standard error. The version goes to standard
+/// output.
 fn say(rt: &HostRuntime, error: &clap::Error) -> ExitCode {
     match error.kind() {
         ErrorKind::OutOfMemory => refuse(rt, ServeError::Memory.text()),
@@ -106,7 +107,7 @@ fn say_what_is_read(rt: &HostRuntime) {
     }
 }
 
-/// Says why there is no report, and then, if a person is told, more about it.
+/// Says why there is no report, and then more about it, if there is more.
 fn say_refusal(rt: &HostRuntime, error: ServeError, about: Result<String, AllocError>) {
     let _ = eprintln!(rt; "starload: {}", error.text());
     if let Ok(about) = about {
@@ -114,7 +115,7 @@ fn say_refusal(rt: &HostRuntime, error: ServeError, about: Result<String, AllocE
     }
 }
 
-/// More about why there is no report of a bundle, by those of its bytes that were kept.
+/// More about why there is no report of a bundle, from the bytes of it that were kept.
 fn about_bytes(
     alloc: Global,
     kept: Option<&[u8]>,
@@ -151,7 +152,7 @@ fn report_bundle<H: Threads + Wait + Sync>(
     outcome
 }
 
-/// More about why there is no report of a folder, if a person is told.
+/// More about why there is no report of a folder, if a message to a person is wanted.
 fn about_files<F: Folder>(
     alloc: Global,
     folder: &mut F,

@@ -85,7 +85,7 @@ fn path_text(alloc: Global, path: Option<&str>) -> io::Result<String> {
 }
 
 /// Where a folder lies.
-fn place_of(rt: &HostRuntime, alloc: Global, dir: &str) -> io::Result<Place> {
+fn folder_place(rt: &HostRuntime, alloc: Global, dir: &str) -> io::Result<Place> {
     if !fs::metadata(rt, dir)?.is_dir() {
         return Err(io::Error::from(io::ErrorKind::NotADirectory));
     }
@@ -98,7 +98,7 @@ fn place_of(rt: &HostRuntime, alloc: Global, dir: &str) -> io::Result<Place> {
     }
 }
 
-/// A word: where it is the absolute path of a file in the folder, the label of that.
+/// A word, or the label of a file in the folder if the word is the absolute path of the file.
 fn word_in(alloc: Global, place: &Place, word: &str) -> Result<String, LabelError> {
     if word.starts_with('/') {
         if let Some(rest) = below(place.top.as_str(), word) {
@@ -113,8 +113,8 @@ fn word_in(alloc: Global, place: &Place, word: &str) -> Result<String, LabelErro
 /// Why there is no report.
 #[derive(Debug, Drop, Error)]
 enum Refusal {
-    /// The reason of the run; and if a person is told, the load statement that asks for the file that the reason names, and
-    /// lines about that file.
+    /// The reason of the run. If a message to a person is wanted, also the load statement that asks for the file that
+    /// the reason names, and lines about that file.
     #[error("{error}")]
     Run {
         error: RepoError,
@@ -259,8 +259,8 @@ fn with_labels(
     Ok(options)
 }
 
-/// The load statement that asks for the file which a refusal names: none where no person is told, or where the file was
-/// asked for on the command line.
+/// The load statement that asks for the file that a refusal names: none if no message to a person is wanted, or if the
+/// file was asked for on the command line.
 fn load_for<H: Wait>(
     rt: &HostRuntime,
     threads: &H,
@@ -285,7 +285,8 @@ fn load_for<H: Wait>(
     }
 }
 
-/// Lines about the file that a refusal is about: none where no person is told, or the refusal is about no file.
+/// Lines about the file that a refusal is about: none if no message to a person is wanted, or if the refusal is not
+/// about a file.
 fn about_for(
     rt: &HostRuntime,
     alloc: Global,
@@ -320,7 +321,7 @@ fn say_more(rt: &HostRuntime, load: Option<&LoadAt>, about: Option<&String>) {
     }
 }
 
-/// Says why there is no report, and if a person is told, more about it.
+/// Says why there is no report, and more about it, if a message to a person is wanted.
 fn say_refusal(rt: &HostRuntime, refusal: &Refusal, is_told: bool) {
     let _ = eprintln!(rt; "starload: {refusal}");
     match refusal {
@@ -345,7 +346,7 @@ fn reported<H: Threads + Wait + Sync>(
     requires loaders { (1 ≤ options.loaders) × (options.loaders ≤ 64) }
     requires steps { (1 ≤ options.steps) × (options.steps ≤ 100000000) }
 {
-    let Ok(place) = place_of(rt, alloc, asked.dir.as_str()) else {
+    let Ok(place) = folder_place(rt, alloc, asked.dir.as_str()) else {
         return Err(Refusal::from(ServeError::BadDir));
     };
     let options = with_labels(rt, alloc, asked, &place, options)?;

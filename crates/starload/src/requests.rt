@@ -14,7 +14,7 @@ use std::process::ExitCode;
 use std::sync::Wait;
 use std::thread::Threads;
 
-/// The text on an end before that of standard input.
+/// The message if the requests end before standard input does.
 fn text_of(error: ServeError) -> &'static str {
     match error {
         ServeError::Read => "cannot read the requests",

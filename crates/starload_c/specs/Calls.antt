@@ -1,4 +1,4 @@
--- What a call of the library answers.
+-- The answer of a call of the library.
 use Rattle.std.specs.Prelude.{◌≡◌, ◌≢◌, ◌<◌, ◌≤◌, ◌⊎◌, ◌++◌, ℕ, List, [], All, Bool, IfSome, Option, Some, None, Result, drop, length, map, if◌then◌else◌}
 use Rattle.std.specs.Prelude.{Ok}
 use Rattle.std.specs.Str.{IsUtf8}
@@ -10,7 +10,7 @@ use Rattle.star_alone.specs.Alone.{IsAnswered, IsRefusedBy, asked_within}
 use Rattle.starload_c.specs.declared.asked.Asked.{Asked}
 use Rattle.starload_c.specs.declared.asked.Answer.{Answer}
 
--- the labels of the roots, and that of the prelude if there is one: each word as its bytes
+-- the labels of the roots, and the label of the prelude if there is one: each word as its bytes
 abbrev pub words_of : Asked → List (List ℕ)
 words_of a = map (λ w. w.now) a.roots.now
 
@@ -36,7 +36,7 @@ WordsFit a = (a.roots.now ≢ []) × All (λ w. IsUtf8 w.now) a.roots.now × IfS
 abbrev pub Fits : Asked → Type 0
 Fits a = StepsFit a × WordsFit a
 
--- a text is the report of what is asked for, and the answer is whether each module of it is ok
+-- a text is the report that is asked for, and the answer is whether each module of it is ok
 pub record IsReport (a : Asked) (text : List ℕ) (all_ok : Bool) : Type 0 where
   pub fits : Fits a
   pub input : bundle.Asked
@@ -62,7 +62,7 @@ refusal_of BadDir = 14
 refusal_of BadFile = 15
 refusal_of NotText = 16
 
--- the number of a refusal of what is asked for: 17 if the steps do not fit, or else 18 if the words do not
+-- the number of a refusal of the request: 17 if the steps do not fit, or else 18 if the words do not
 abbrev pub IsRefusal : Asked → ℕ → Type 0
 IsRefusal a r =
     ((r ≡ 17) × (StepsFit a → ⊥)) ⊎ ((r ≡ 18) × StepsFit a × (WordsFit a → ⊥))
@@ -82,7 +82,7 @@ IsWritten a all_ok old new r =
 abbrev pub IsRefused : Asked → List ℕ → List ℕ → Answer → Type 0
 IsRefused a old new r = IsRefusal a r.refusal × (new ≡ old) × (r.length ≡ 0)
 
--- there is a report, for which the buffer has no room: it is as it was
+-- there is a report, but the buffer has no room for it and is as it was
 abbrev pub IsTooLong : Asked → List ℕ → List ℕ → Answer → Type 0
 IsTooLong a old new r =
     (text : List ℕ) × (all_ok : Bool) × IsReport a text all_ok × (length old < length text) × (new ≡ old)

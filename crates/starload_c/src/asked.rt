@@ -1,4 +1,4 @@
-//! What C asks for, and what is answered.
+//! The request of C, and the answer.
 
 ghost use Rattle.std.specs.Prelude.{◌≡◌, All, IfOk, IfSome, false, map, option_map, string_bytes, true};
 ghost use Rattle.std.specs.Str.{IsUtf8};
@@ -8,7 +8,7 @@ use star_bundle::error::ServeError;
 use star_report::wanted::Wanted;
 use std::alloc::{AllocError, Global};
 
-/// What is asked for. Each slice is a pointer, which is never null, and a length.
+/// The request. Each slice is a pointer, which is never null, and a length.
 #[repr(C)]
 #[derive(Clone, Copy)]
 pub struct Asked<'a> {
@@ -32,16 +32,16 @@ pub struct Asked<'a> {
     pub only_roots: bool,
 }
 
-/// What a call answers.
+/// The answer of a call.
 #[repr(C)]
 #[derive(Clone, Copy)]
 pub struct Answer {
-    /// 0: a report, in which every file is ok; 1: a report, in which some file is not; 2: no report; 3: a report for
-    /// which `out` has no room. With 2 and 3 `out` is as it was.
+    /// 0: a report, in which every file is ok; 1: a report, in which some file is not; 2: no report; 3: a report that
+    /// `out` has no room for. With 2 and 3 `out` is as it was.
     pub status: u32,
-    /// Why there is no report, by the numbers of `starload.h`; 0 if there is one.
+    /// Why there is no report, by the numbers of `starload.h`. 0 if there is one.
     pub refusal: u32,
-    /// How many bytes the report has; 0 if there is none.
+    /// How many bytes the report has. 0 if there is no report.
     pub length: usize,
 }
 
@@ -114,7 +114,7 @@ fn texts_of(alloc: Global, words: &[&[u8]]) -> Result<Vec<String>, AllocError>
 }
 
 impl<'a> Asked<'a> {
-    /// What is wanted more of each module.
+    /// The further members of each module that are wanted.
     pub(crate) fn wanted(&self) -> Wanted
         ensures { result ≡ spec.wanted_of self.now }
     {

@@ -1,4 +1,4 @@
-//! What C calls.
+//! The function that C calls.
 
 ghost use Rattle.std.specs.Prelude.{◌≡◌, ◌≤◌, IfErr, IfOk, length, true, false};
 ghost use Rattle.star_alone.specs.Alone.{IsRefusedBy};
@@ -12,10 +12,10 @@ use std::alloc::Global;
 /// The refusal of steps that are not from 1 to 100,000,000.
 const BAD_STEPS: u32 = 17;
 
-/// The refusal of words of which one is not a text, or none is a root.
+/// The refusal of the words if one is not a text, or if there is no root.
 const BAD_WORDS: u32 = 18;
 
-/// The report of what is asked for.
+/// The report that is asked for.
 fn served(alloc: Global, asked: &Asked<'_>) -> Result<Answered, ServeError>
     requires { spec.Fits asked.now }
     ensures ok { IfOk result (λ a. spec.IsReport asked.now a.text.items a.all_ok) }
@@ -33,7 +33,7 @@ fn served(alloc: Global, asked: &Asked<'_>) -> Result<Answered, ServeError>
     )
 }
 
-/// The report of what is asked for, or the number of the refusal.
+/// The report that is asked for, or the number of the refusal.
 fn answered(alloc: Global, asked: &Asked<'_>) -> Result<Answered, u32>
     ensures ok { IfOk result (λ a. spec.IsReport asked.now a.text.items a.all_ok) }
     ensures refused { IfErr result (spec.IsRefusal asked.now) }
@@ -59,10 +59,10 @@ fn put(out: &mut [u8], bytes: &[u8])
     front.copy_from_slice(bytes);
 }
 
-/// Writes the report of what is asked for to the front of `out`.
+/// Writes the report that is asked for to the front of `out`.
 ///
 /// If `out` has no room for it, nothing is written, and the same call with room for `length` bytes writes it: a report
-/// depends on nothing but what is asked for. All memory is back when the call returns. Nothing is kept between calls.
+/// depends on nothing but the request. All memory is back when the call returns. Nothing is kept between calls.
 #[unsafe(no_mangle)]
 pub extern "C" fn starload_run(alloc: Global, asked: &Asked<'_>, out: &mut [u8]) -> Answer
     ensures status { result.status ≤ 3 }

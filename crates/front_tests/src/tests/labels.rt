@@ -9,7 +9,7 @@ use std::alloc::Global;
 use std::collections::BTreeMap;
 use std::test::Fail;
 
-/// Rows of a text, the package in which it is read, and its normal form, or `!` if it is none.
+/// Rows: a text, the package that it is read in, and its normal form, or `!` if it is not a label.
 const TABLE: &str = "//:a||//:a;//:x.star||//:x.star;:x.star||//:x.star;//lib:x.star||//lib:x.star;\
     //lib/y:x.star||//lib/y:x.star;//a/b/c/d:e||//a/b/c/d:e;lib:x||!;//a//b:c||!;//:a/b||!;//a:..||!;\
     //:..||!;//:.||!;||!;:||!;//||!;//:||!;//lib||!;//lib:||!;:..||!;:.||!;:...||//:...;\
@@ -111,7 +111,7 @@ fn stands_at_folders(rt: HostRuntime) -> Result<(), Fail> {
     Ok(())
 }
 
-/// So many files with empty texts, their labels made from last to first.
+/// `count` files with empty texts, their labels made from last to first.
 fn many(alloc: Global, count: usize) -> Result<BTreeMap<Label, String>, Fail> {
     let mut files = BTreeMap::new(alloc);
     for n in 0..count {

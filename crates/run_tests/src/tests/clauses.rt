@@ -5,8 +5,8 @@ use std::alloc::{AllocError, Global};
 use std::process::Abort;
 use std::test::Fail;
 
-/// Two lists: `x`, of one pair, and `y`, by a comprehension over it with `count` further `for` clauses, each followed by
-/// `conditions` conditions. A comma of a target gives the nesting weight back.
+/// Two lists: `x`, of one pair, and `y`, by a comprehension over it with `count` further `for` clauses, each followed
+/// by `conditions` conditions. A comma of a target gives the nesting weight back.
 fn with_clauses(alloc: Global, count: usize, conditions: usize) -> Result<String, AllocError> {
     let mut text = String::from_str(alloc, "x = [(1, 2)]\ny = [0 for a, b in x")?;
     for _ in 0..count {
@@ -19,7 +19,7 @@ fn with_clauses(alloc: Global, count: usize, conditions: usize) -> Result<String
     Ok(text)
 }
 
-/// Asserts that `y` is a list of one.
+/// Asserts that `y` is a list of one item.
 fn many_clauses_end_over(
     rt: &impl Abort,
     alloc: Global,

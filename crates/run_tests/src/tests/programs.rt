@@ -3,7 +3,7 @@
 use crate::tests::samples::{Need, takes};
 use std::test::Fail;
 
-/// Programs, the steps that each takes, and the line in which it stops if one is missing.
+/// Programs, the steps that each takes, and the line where it stops if one step is missing.
 const STEPS: &[(&'static str, u32, usize)] = &[
     ("pass", 1, 1),
     ("x = 1 + 2", 4, 1),
@@ -31,7 +31,7 @@ const STEPS: &[(&'static str, u32, usize)] = &[
     ("x = [0 for a in [1, 2] if None for b in [3]]", 14, 1),
 ];
 
-/// Programs, the levels that each opens, and the line in which it stops if one is missing.
+/// Programs, the levels that each opens, and the line where it stops if one level is missing.
 const LEVELS: &[(&'static str, u32, usize)] = &[
     ("pass", 1, 1),
     ("x = 1", 2, 1),

@@ -183,7 +183,7 @@ pub(crate) fn gives(
     sample_is_as_wanted(rt, alloc, sample)
 }
 
-/// What a program needs a number of.
+/// The resource that is counted: steps or levels.
 #[derive(Clone, Copy)]
 pub(crate) enum Need {
     Steps,
@@ -191,7 +191,7 @@ pub(crate) enum Need {
 }
 
 impl Need {
-    /// A program, whose last statement is not an expression, with this number.
+    /// A program with this number of steps or levels. Its last statement is not an expression.
     fn sample<'s>(
         self,
         source: &'s str,
@@ -210,7 +210,7 @@ impl Need {
         }
     }
 
-    /// How a program stops at a line if one is missing.
+    /// How a program stops at a line if one step or level is missing.
     fn stop(self, line: usize) -> EvalError {
         match self {
             Need::Steps => fault_at(FaultCode::Steps, line),
@@ -219,8 +219,8 @@ impl Need {
     }
 }
 
-/// Asserts the least number with which a program, whose last statement is not an expression, ends well. With one less it
-/// ends in a line.
+/// Asserts the least number of steps or levels that a program needs to end well. Its last statement is not an
+/// expression. With one less it stops in a line.
 pub(crate) fn takes(
     rt: &impl Abort,
     alloc: Global,

@@ -1,7 +1,7 @@
 //! Tests of values and their operations: operators, built-in functions, methods, arguments, keys.
 //!
 //! Each of them is called here on its happy path, since a body that always gives up for want of memory would meet its
-//! contract. What else a file's text can show is in `tests/cases`.
+//! contract. Other effects of a file's text are tested in `tests/cases`.
 
 use crate::tests::samples::gives;
 use star_machine::fault::fault_at;
@@ -93,7 +93,7 @@ fn programs_end_in_values(rt: HostRuntime) -> Result<(), Fail> {
     Ok(())
 }
 
-/// Programs, and the fault and the line in which each stops.
+/// Programs, and the fault and the line where each stops.
 const FAULTS: &[(&'static str, FaultCode, usize)] = &[
     ("fail([3, 0])", FaultCode::Fail, 1),
     ("[].upper()", FaultCode::BadType, 1),

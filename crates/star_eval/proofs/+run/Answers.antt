@@ -10,7 +10,7 @@ use Rattle.star_enter.specs.Positional.{expression_of}
 use Rattle.star_world.specs.World.{semantics}
 use Rattle.star_eval.specs.Steps.{all_left, opened_left, remaining_turns}
 use Rattle.star_call.proofs.Seen.{drop_next}
-use Rattle.star_method.proofs.Each.{each_more}
+use Rattle.star_machine.proofs.Each.{each_more}
 use Rattle.star_enter.proofs.Positional.{call_gives}
 use Rattle.star_eval.proofs.Clauses.{clause_ended, filled_ends, filled_well, first_of, if_holds, turn_ended, turn_opened}
 use Rattle.star_eval.proofs.Spends.{expression_spends}

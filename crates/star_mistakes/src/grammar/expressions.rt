@@ -56,7 +56,7 @@ impl<'a> Reader<'a> {
         self.then(&[Want::Test, Want::Is(Shape::Other)])
     }
 
-    /// An operand that stands after others, or after a sign.
+    /// An operand after others, or after a sign.
     fn operand_after(&mut self, begins: bool, is_compared: bool) -> Result<(), AllocError> {
         self.then(&[Want::Operand {
             begins,
@@ -189,7 +189,7 @@ impl<'a> Reader<'a> {
         Ok(())
     }
 
-    /// What follows the first expression of a subscript.
+    /// The part after the first expression of a subscript.
     pub(super) fn index(&mut self) -> Result<(), AllocError> {
         if self.is(Punctuator::Colon) {
             return self.slice();
@@ -280,7 +280,7 @@ impl<'a> Reader<'a> {
         }
     }
 
-    /// `*`, which has no name where others come after it.
+    /// `*` with its name, which may be absent if another name comes after it.
     fn star_parameter(&mut self) {
         self.skip();
         if self.kind() == Kind::Name {

@@ -170,7 +170,7 @@ impl<'a> Reader<'a> {
         self.then(&[Want::Loaded])
     }
 
-    /// Whether a string stands here that has, as far as it shows, the form of a name.
+    /// Whether the token here is a string that has the form of a name, or has a backslash in it.
     fn is_loaded_name(&self) -> bool {
         let Some(token) = self.tokens.get(self.at) else {
             return false;

@@ -77,8 +77,8 @@ impl Arena {
         }
     }
 
-    /// The place of a key in an index with keys of other files, if it can be told; the inner one is `None` if the value
-    /// is not a key.
+    /// The place of a key in an index with keys of other files, if the index can tell it. The inner one is `None` if
+    /// the value is not a key.
     fn far_place(&self, homes: &Homes, index: &KeyIndex, key: Value) -> Option<Option<usize>>
         ensures { IfSome result (λ place. place ≡ place_of_key (look self.now homes.now) key index.now) }
     {
@@ -184,7 +184,7 @@ impl Arena {
             return None;
         };
         if home == self.home {
-            return index_in(&self.rows, at);
+            return index_in(&self.indexes, at);
         }
         homes.published(home as usize)?.index(home, at)
     }
@@ -216,14 +216,14 @@ impl Frozen {
         if self.home != home {
             return None;
         }
-        index_in(&self.rows, at)
+        index_in(&self.indexes, at)
     }
 }
 
-fn index_in(rows: &[Option<Box<KeyIndex>>], at: u32) -> Option<&KeyIndex>
-    ensures { option_copied result ≡ index_at rows.now at }
+fn index_in(indexes: &[Option<Box<KeyIndex>>], at: u32) -> Option<&KeyIndex>
+    ensures { option_copied result ≡ index_at indexes.now at }
 {
-    match rows.get(at as usize) {
+    match indexes.get(at as usize) {
         Some(Some(index)) => Some(index),
         _ => None,
     }

@@ -18,8 +18,8 @@ use crate::table::{Row, Rows, Table};
 use crate::values::{Cell, HeapCell, Value};
 use std::alloc::AllocError;
 
-/// If so many keys of a store have one content, a walk may be faster.
-const MANY: usize = 8;
+/// If this many keys of a store have one content, a walk may be faster.
+const MANY_ALIKE: usize = 8;
 
 impl Arena {
     /// The place of a key's content in an index that has keys of other files. `None` if a walk is called for: a store
@@ -57,14 +57,14 @@ impl Arena {
             return Some(None);
         };
         let others = row.others();
-        if others.len() > MANY && others.len() > keys.len() / MANY {
+        if others.len() > MANY_ALIKE && others.len() > keys.len() / MANY_ALIKE {
             return None;
         }
         let first = keys.place(&KeyContent::far(home, row.first()));
         Some(earlier(first, earliest(keys, home, others)))
     }
 
-    /// The addresses of a file's keys that have a content, for a dictionary of so many entries.
+    /// The addresses of a file's keys that have a content, for a dictionary of `entries` entries.
     fn row<'a>(
         &self,
         homes: &'a Homes<'a>,

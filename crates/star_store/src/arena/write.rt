@@ -6,7 +6,7 @@ ghost use Rattle.star_store.specs.Key.{find_in};
 ghost use Rattle.star_store.specs.Store.{iterations_of, look};
 ghost use Rattle.star_store.specs.Write.{Writes, allowed, cell_at, change_cell, change_entries, change_items, delete, in_cells, is_good_key, is_own, key_of, may_change, may_write, place_in, put, suits, write};
 
-use crate::arena::rows::change_row;
+use crate::arena::indexes::change_index_at;
 use crate::arena::{Arena, Homes, is_container};
 use crate::fault::StoreFault;
 use crate::key::may_be_key;
@@ -27,7 +27,7 @@ pub enum Change {
     Put(Value, Value),
     /// A dictionary loses the entry of a key.
     Delete(Value),
-    /// A list or dictionary loses all that it holds.
+    /// A list or dictionary loses all its items or entries.
     Clear,
 }
 
@@ -155,10 +155,10 @@ impl Arena {
 
     /// Changes a list or dictionary, and returns the value that was replaced or taken out.
     ///
-    /// Refused, in this order: `BadType` if the target is not a list or dictionary, or the change is one for the other;
-    /// `Frozen` if another module made it; `Iterating` if an iteration is open on it; `BadType` if the key is not a
-    /// key; `Index` if a list has no such index; `Key` if the key of a `Delete` is absent; `Memory`. After a refusal
-    /// all is as it was.
+    /// The refusals, in this order: `BadType` if the target is not a list or dictionary, or the change is one for the
+    /// other. Then `Frozen` if another module made it, and `Iterating` if an iteration is open on it. Then `BadType` if
+    /// the key is not a key, `Index` if a list has no such index, and `Key` if the key of a `Delete` is absent. Last
+    /// comes `Memory`. After a refusal all is as it was.
     pub fn write(
         &mut self,
         homes: &Homes,
@@ -174,7 +174,7 @@ impl Arena {
         };
         let content = self.new_content(at, change, place);
         let old = change_at(&mut self.cells, at, change, place)?;
-        change_row(&mut self.rows, at, change, place, content);
+        change_index_at(&mut self.indexes, at, change, place, content);
         self.index_if_due(at, place.is_none());
         Ok(old)
     }

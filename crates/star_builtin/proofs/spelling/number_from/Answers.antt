@@ -2,7 +2,7 @@ use Rattle.std.proofs.Common.{◌<◌, length, arith}
 use Rattle.star_builtin.proofs.Digits.{number_over}
 use Rattle.star_builtin.proofs.spelling.number_from.Goals as goal
 
-pub returns-then-number-ge-LIMIT : goal.returns-then-number-ge-LIMIT
-returns-then-number-ge-LIMIT c =
+pub returns-then-number-ge-BEYOND : goal.returns-then-number-ge-BEYOND
+returns-then-number-ge-BEYOND c =
     let h : c.loop-digit.digit-index < length c.args.digits.now = omega arith in
     number_over c.loop-digit.number c.loop-digit.digit-index c.args.digits.now h c.loop-digit.invariant.rest (omega arith)

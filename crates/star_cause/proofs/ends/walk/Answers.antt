@@ -15,17 +15,17 @@ returns-in-Some-clause-walked c =
     let inside : c.way.at < length ends = omega (arith, c.way.invariant.file, c.requires.ends.size) in
     stopped_known c.args.nexts.now ends c.args.n c.way.files.items c.way.places.items c.way.at c.in-Some.end c.requires.ends c.requires.fresh (read_at ends c.way.at None (Some c.in-Some.end) inside c.in-Some.is) c.way.invariant
 
-pub returns-in-Some-place_of-clause-walked : goal.returns-in-Some-place_of-clause-walked
-returns-in-Some-place_of-clause-walked c =
+pub returns-in-Some-index_on_path-clause-walked : goal.returns-in-Some-index_on_path-clause-walked
+returns-in-Some-index_on_path-clause-walked c =
     let files = c.way.files.items in
-    let place = c.in-Some-place_of.place in
+    let place = c.in-Some-index_on_path.place in
     let same = c.deref.ensures.value in
-    stopped_met c.args.nexts.now c.args.ends.now c.args.n files c.way.places.items c.way.at place (subst (λ fs. place < length fs) same c.in-Some-place_of.ensures.0) (subst (λ fs. slice_index fs place ≡ c.way.at) same c.in-Some-place_of.ensures.1) c.way.invariant
+    stopped_met c.args.nexts.now c.args.ends.now c.args.n files c.way.places.items c.way.at place (subst (λ fs. place < length fs) same c.in-Some-index_on_path.ensures.0) (subst (λ fs. slice_index fs place ≡ c.way.at) same c.in-Some-index_on_path.ensures.1) c.way.invariant
 
 pub way-smaller : goal.way-smaller
 way-smaller c =
     let files = c.way.files.items in
-    let off : Contains files c.way.at → ⊥ = subst (λ fs. Contains fs c.way.at → ⊥) c.deref.ensures.value c.in_default-place_of.ensures in
+    let off : Contains files c.way.at → ⊥ = subst (λ fs. Contains fs c.way.at → ⊥) c.deref.ensures.value c.in_default-index_on_path.ensures in
     let more = room c.args.nexts.now c.args.ends.now c.args.n files c.way.places.items c.way.at off c.way.invariant in
     let size = ap length c.in_ok-push.ensures.items ∙ length_push files c.way.at in
     omega (arith, more, size)
@@ -37,7 +37,7 @@ way-preserved c =
     let files = c.way.files.items in
     let places = c.way.places.items in
     let at = c.way.at in
-    let off : Contains files at → ⊥ = subst (λ fs. Contains fs at → ⊥) c.deref.ensures.value c.in_default-place_of.ensures in
+    let off : Contains files at → ⊥ = subst (λ fs. Contains fs at → ⊥) c.deref.ensures.value c.in_default-index_on_path.ensures in
     let inside : at < length ends = omega (arith, c.way.invariant.file, c.requires.ends.size) in
     let fresh : IsFresh ends at = read_at ends at None None inside c.in_default.is in
     let goes : Goes nexts at c.in-Some-nexts.next = read_at nexts at None (Some c.in-Some-nexts.next) c.way.invariant.file c.in-Some-nexts.is in

@@ -262,7 +262,7 @@ write_members-returns-clause-data t c =
 
 -- ---- a row
 
--- what stands at a place past the end of a row
+-- the entry at a place past the end of a row
 abbrev no_member : Bor (List ℕ) × Value
 no_member = (record { ref_ptr = (0, 0); now = [] }, NoneValue)
 

@@ -7,14 +7,14 @@ use Rattle.star_lex.proofs.lay.lay.Goals as goal
 pub returns-in_err-push_line : goal.returns-in_err-push_line
 returns-in_err-push_line c =
     let fault = c.in_err-push_line.field-0.0 in
-    let whole = lay c.args.line c.args.at (0 ∷ []) 0 (lines 0 c.args.cuts.now) in
+    let whole = lay c.args.line c.args.at (0 ∷ []) 0 (lines 0 c.args.pieces.now) in
     let a = line_refused whole c.args.line c.args.at c.lines.opened.items c.lines.out.items c.push_line.new.out.items c.lines.rest.now c.split_at.result.0.now c.line_size-size.result fault
     c.lines.invariant c.line_size-size.ensures.value c.split_at.ensures.front c.in_err-push_line.ensures.tokens in
     rw (err_of c.from_residual-in_err-push_line.result fault c.from_residual-in_err-push_line.ensures.1) a
 
 pub lines-preserved : goal.lines-preserved
 lines-preserved c =
-    let whole = lay c.args.line c.args.at (0 ∷ []) 0 (lines 0 c.args.cuts.now) in
+    let whole = lay c.args.line c.args.at (0 ∷ []) 0 (lines 0 c.args.pieces.now) in
     let tail = c.split_at.result.1.now in
     let opened = c.push_line.new.opened.items in
     let r = line_read whole c.args.line c.args.at c.lines.opened.items opened c.lines.out.items c.push_line.new.out.items c.lines.rest.now c.split_at.result.0.now tail c.line_size-size.result
@@ -24,7 +24,7 @@ lines-preserved c =
 
 pub returns-in-empty : goal.returns-in-empty
 returns-in-empty c =
-    let whole = lay c.args.line c.args.at (0 ∷ []) 0 (lines 0 c.args.cuts.now) in
+    let whole = lay c.args.line c.args.at (0 ∷ []) 0 (lines 0 c.args.pieces.now) in
     let tail = c.split_at.result.1.now in
     let opened = c.push_line.new.opened.items in
     let d = c.line_size-size.result.1 in

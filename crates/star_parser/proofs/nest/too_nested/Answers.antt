@@ -11,5 +11,5 @@ pub loop-rest-preserved : goal.loop-rest-preserved
 loop-rest-preserved c =
     let e : state c.take.new.self ≡ after_token c.of_kind.result (state c.loop-rest.nesting) = search rules in
     let rest = c.loop-rest.rest.now in
-    let p = passed (too_nested c.args.tokens.now) (state c.loop-rest.nesting) (state c.take.new.self) c.of_kind.result _ rest (omega arith) c.loop-rest.invariant.0 c.of_kind.ensures e c.if-nesting-gt-LIMIT.false in
+    let p = passed (too_nested c.args.tokens.now) (state c.loop-rest.nesting) (state c.take.new.self) c.of_kind.result _ rest (omega arith) c.loop-rest.invariant.0 c.of_kind.ensures e c.if-nesting-gt-MOST_WEIGHT.false in
     (rw (take_rest rest 1) p, within-next (length c.args.tokens.now) (length c.loop-rest.rest.now) _ c.of_kind.result (state c.loop-rest.nesting) (state c.take.new.self) e (omega arith) (omega arith) c.loop-rest.invariant.1, omega arith)

@@ -19,12 +19,12 @@ returns-in_err-old c =
 
 pub invariant_of-self-2 : goal.invariant_of-self-2
 invariant_of-self-2 c =
-    subst (λ (cells : List HeapCell). AreIndexed (record { home = c.self.inside.home; cells = cells }) (with_items c.self.inside.rows c.change_row.new.rows).items)
+    subst (λ (cells : List HeapCell). AreIndexed (record { home = c.self.inside.home; cells = cells }) (with_items c.self.inside.indexes c.change_index_at.new.indexes).items)
     (sym (with_items_is c.self.inside.cells c.change_at.new.cells (c.change_at.auto.cells ∙ c.deref_mut.ensures.len)))
-    (subst (λ (rows : Indexes). AreIndexed (record { home = c.self.inside.home; cells = c.change_at.new.cells }) rows)
-    (sym (with_items_is c.self.inside.rows c.change_row.new.rows (c.change_row.auto.rows ∙ c.deref_mut-2.ensures.len)))
-    (write_indexed c.self.inside.home c.self.inside.cells.items c.deref_mut.result.now c.change_at.new.cells c.self.inside.rows.items c.deref_mut-2.result.now c.change_row.new.rows c.args.self.now c.in-Ref.at c.args.change c.place_in-place.result c.new_content-content.result c.in_ok-old.old
-    c.self.view_is c.self.invariant c.deref_mut.ensures.value c.deref_mut-2.ensures.value c.change_row.ensures c.new_content-content.ensures c.in_ok-old.ensures))
+    (subst (λ (indexes : Indexes). AreIndexed (record { home = c.self.inside.home; cells = c.change_at.new.cells }) indexes)
+    (sym (with_items_is c.self.inside.indexes c.change_index_at.new.indexes (c.change_index_at.auto.indexes ∙ c.deref_mut-2.ensures.len)))
+    (write_indexed c.self.inside.home c.self.inside.cells.items c.deref_mut.result.now c.change_at.new.cells c.self.inside.indexes.items c.deref_mut-2.result.now c.change_index_at.new.indexes c.args.self.now c.in-Ref.at c.args.change c.place_in-place.result c.new_content-content.result c.in_ok-old.old
+    c.self.view_is c.self.invariant c.deref_mut.ensures.value c.deref_mut-2.ensures.value c.change_index_at.ensures c.new_content-content.ensures c.in_ok-old.ensures))
 
 pub returns : goal.returns
 returns c =

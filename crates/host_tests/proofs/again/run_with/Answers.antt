@@ -1,7 +1,0 @@
-use Rattle.std.proofs.Common.{None, sym, subst}
-use Rattle.star_outcome.specs.GoodEnds.{AreGoodEndsOf}
-use Rattle.host_tests.proofs.again.run_with.Goals as goal
-
-pub run_in-requires-clause-ends : goal.run_in-requires-clause-ends
-run_in-requires-clause-ends g c = λ lives within.
-    subst (AreGoodEndsOf c.args.files.now c.args.roots.now None 100000) (sym c.as_slice-2.ensures.value) c.requires.ends

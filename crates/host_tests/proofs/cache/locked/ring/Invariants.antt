@@ -1,4 +1,0 @@
-use Rattle.host_tests.proofs.cache.locked.ring.Given as goal
-
-abbrev pub ghosts-ring_ends : goal.ghosts-ring_ends
-ghosts-ring_ends g a = record { name = a.blank.name; parts = a.blank.parts }

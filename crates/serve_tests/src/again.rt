@@ -1,0 +1,87 @@
+//! A second run of the same files, which knows the good ends of the first.
+
+ghost use Rattle.std.specs.Prelude.{◌≡◌, IfOk, None, length};
+ghost use Rattle.star_outcome.specs.GoodEnds.{AreGoodEndsOf};
+ghost use Rattle.star_outcome.specs.Kept.{AreModulesOf};
+ghost use Rattle.star_reading.specs.Found.{Within};
+
+use crate::meeting::Meeting;
+use crate::runs::{BY_TWO, all_roots, files_of, report_text};
+use star_checks::holds;
+use star_host::{GoodEnd, Known, Reads, Run, RunOptions, Trees, run_in};
+use star_label::files::Files;
+use star_report::wanted::Wanted;
+use std::alloc::Global;
+use std::sync::Wait;
+use std::test::Fail;
+use std::thread::Threads;
+
+/// Two files that go well, one whose run stops, and one that loads it.
+const BUNDLE: [(&str, &str); 4] = [
+    ("//:a.star", "load(\"//:c.star\", \"k\")\nx = [k, k]"),
+    ("//:b.star", "print(\"twice\")\ny = 1 // 0"),
+    ("//:c.star", "print(\"once\")\nk = (1,)"),
+    ("//:d.star", "load(\"//:b.star\", \"y\")\nz = y"),
+];
+
+/// The run of files by two loaders, with these ends known.
+fn run_with<R: Threads + Wait + Sync>(
+    rt: &R,
+    alloc: Global,
+    files: &Files,
+    ends: Vec<Option<GoodEnd>>,
+    roots: &[usize],
+    gate: &Meeting,
+) -> Result<Run, Fail>
+    requires roots { Within files.now roots.now }
+    requires ends { AreGoodEndsOf files.now roots.now None 100000 ends.items }
+    ensures files { IfOk result (λ r. length r.cells ≡ length files.now) }
+    ensures modules { IfOk result (λ r. AreModulesOf files.now roots.now None 100000 r.kept) }
+{
+    let trees = Trees::new(alloc)?;
+    let mut reads = Reads::new(alloc);
+    let parses = Vec::new(alloc);
+    let known = Known {
+        trees: &trees,
+        parses: parses.as_slice(),
+        ends: ends.as_slice(),
+    };
+    let options = RunOptions { roots, ..BY_TWO };
+    Ok(run_in(rt, alloc, files, known, &mut reads, options, gate)?)
+}
+
+/// The run of the same files again, with the good ends of a first run known.
+fn run_again<R: Threads + Wait + Sync>(
+    rt: &R,
+    alloc: Global,
+    files: &Files,
+    first: &mut Run,
+    roots: &[usize],
+    gate: &Meeting,
+) -> Result<Run, Fail>
+    requires roots { Within files.now roots.now }
+    requires cells { length first.old.cells ≡ length files.now }
+    requires modules { AreModulesOf files.now roots.now None 100000 first.old.kept }
+    ensures same { first.new ≡ first.old }
+    ensures files { IfOk result (λ r. length r.cells ≡ length files.now) }
+{
+    let ends = first.good_ends(alloc, files.len())?;
+    run_with(rt, alloc, files, ends, roots, gate)
+}
+
+#[test]
+fn a_file_whose_good_end_is_known_is_not_run(rt: HostRuntime) -> Result<(), Fail> {
+    let alloc = rt.alloc();
+    let files = files_of(alloc, &BUNDLE)?;
+    let roots = all_roots(alloc, &files)?;
+    let (gate, again) = (Meeting::new([0; 4], 1), Meeting::new([0; 4], 1));
+    let none = Vec::new(alloc);
+    let mut first = run_with(&rt, alloc, &files, none, &roots, &gate)?;
+    let mut second = run_again(&rt, alloc, &files, &mut first, &roots, &again)?;
+    gate.has_held(&rt, 3, 0);
+    again.has_held(&rt, 1, 0);
+    let one = report_text(&rt, alloc, &files, &mut first, &[], Wanted::NOTHING, 1)?;
+    let two = report_text(&rt, alloc, &files, &mut second, &[], Wanted::NOTHING, 1)?;
+    holds!(&rt; one.as_str() == two.as_str());
+    Ok(())
+}

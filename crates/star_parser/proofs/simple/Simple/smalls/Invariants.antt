@@ -1,9 +1,0 @@
-use Rattle.std.proofs.Common.{◌≡◌, ◌-◌}
-use Rattle.star_syntax.specs.Grammar.{rounds}
-use Rattle.star_syntax.specs.Expressions.{snoc}
-use Rattle.star_syntax.specs.Statements.{smalls, next_small}
-use Rattle.star_syntax.specs.Language.{reads}
-use Rattle.star_parser.proofs.simple.Simple.smalls.Given as goal
-
-abbrev pub invariant-loop-turn : goal.invariant-loop-turn
-invariant-loop-turn l = reads l.self.depth smalls l.fn.leaves ≡ rounds snoc (reads l.self.depth next_small) (l._turn-end - l._turn) l.found l.rest

@@ -1,5 +1,0 @@
-//! Tests of stores, and of the indexes of dictionaries.
-
-mod fixture;
-mod indexes;
-mod stores;
