@@ -1,2 +1,1 @@
 pub mod LoadsItself
-pub mod Needs

@@ -10,19 +10,10 @@ use crate::runs::{BY_TWO, all_roots, files_of, report_text};
 use star_checks::holds;
 use star_host::{GoodEnd, Known, Reads, Run, RunOptions, Trees, run_in};
 use star_label::files::Files;
-use star_report::wanted::Wanted;
 use std::alloc::Global;
 use std::sync::Wait;
 use std::test::Fail;
 use std::thread::Threads;
-
-/// Two files that go well, one whose run stops, and one that loads it.
-const BUNDLE: [(&str, &str); 4] = [
-    ("//:a.star", "load(\"//:c.star\", \"k\")\nx = [k, k]"),
-    ("//:b.star", "print(\"twice\")\ny = 1 // 0"),
-    ("//:c.star", "print(\"once\")\nk = (1,)"),
-    ("//:d.star", "load(\"//:b.star\", \"y\")\nz = y"),
-];
 
 /// The run of files by two loaders, with these ends known.
 fn run_with<R: Threads + Wait + Sync>(
@@ -69,10 +60,17 @@ fn run_again<R: Threads + Wait + Sync>(
     run_with(rt, alloc, files, ends, roots, gate)
 }
 
+/// Two files go well, the run of another stops, and the last one loads that.
 #[test]
 fn a_file_whose_good_end_is_known_is_not_run(rt: HostRuntime) -> Result<(), Fail> {
     let alloc = rt.alloc();
-    let files = files_of(alloc, &BUNDLE)?;
+    let bundle = [
+        ("//:a.star", "load(\"//:c.star\", \"k\")\nx = [k, k]"),
+        ("//:b.star", "print(\"twice\")\ny = 1 // 0"),
+        ("//:c.star", "print(\"once\")\nk = (1,)"),
+        ("//:d.star", "load(\"//:b.star\", \"y\")\nz = y"),
+    ];
+    let files = files_of(alloc, &bundle)?;
     let roots = all_roots(alloc, &files)?;
     let (gate, again) = (Meeting::new([0; 4], 1), Meeting::new([0; 4], 1));
     let none = Vec::new(alloc);
@@ -80,8 +78,8 @@ fn a_file_whose_good_end_is_known_is_not_run(rt: HostRuntime) -> Result<(), Fail
     let mut second = run_again(&rt, alloc, &files, &mut first, &roots, &again)?;
     gate.has_held(&rt, 3, 0);
     again.has_held(&rt, 1, 0);
-    let one = report_text(&rt, alloc, &files, &mut first, &[], Wanted::NOTHING, 1)?;
-    let two = report_text(&rt, alloc, &files, &mut second, &[], Wanted::NOTHING, 1)?;
+    let one = report_text(&rt, alloc, &files, &mut first)?;
+    let two = report_text(&rt, alloc, &files, &mut second)?;
     holds!(&rt; one.as_str() == two.as_str());
     Ok(())
 }

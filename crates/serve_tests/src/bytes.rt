@@ -1,20 +1,13 @@
-//! Tests of bundles and folders from bytes to bytes, over scripted streams that tell their bytes to contracts, and
-//! folders that tell their content.
+//! Tests of the calls from bytes to bytes, over streams and folders that fail where a script says so. The streams tell
+//! their bytes to contracts, the folders their content.
 
-ghost use Rattle.std.specs.Prelude.{◌≤◌, IfOk, None, Some, false, ◌==◌, if◌then◌else◌};
+ghost use Rattle.std.specs.Prelude.{◌≤◌, IfOk, None, Some, ◌==◌, if◌then◌else◌};
 ghost use Rattle.star_folder.specs.Memory.{contents_of, rows_of};
 
-mod bundles;
-mod cut;
 mod memo;
 mod ondemand;
-mod outputs;
-mod programs;
-mod progress;
-mod requests;
 
-use serde_json::Value;
-use star_bundle::error::{ServeError, status};
+use star_bundle::error::ServeError;
 use star_checks::{holds, writes};
 use star_folder::folder::{Folder, FolderError, Kind};
 use star_folder::memory::{MemoryFolder, Row};
@@ -29,40 +22,8 @@ use std::sync::Wait;
 use std::test::Fail;
 use std::thread::Threads;
 
-/// A bundle with the words that ask for its files, and the expected result.
-#[derive(Clone, Copy)]
-struct Case<'a> {
-    bundle: &'a str,
-    roots: &'static [&'static str],
-    prelude: Option<&'static str>,
-    steps: u32,
-    /// The lines that one loader writes to standard error, if the trace is asked for: none if it is not asked for.
-    trace: Option<&'static str>,
-    answer: Result<bool, ServeError>,
-    report: &'a str,
-}
-
 /// A bundle of the empty file `//:a.star`.
 const EMPTY: &str = "{\"//:a.star\":\"\"}";
-
-/// The root of most bundles.
-const A_STAR: &[&str] = &["//:a.star"];
-
-/// Bundles, roots and preludes that are refused, and why.
-const REFUSED: [(&str, &[&str], Option<&str>, ServeError); 7] = [
-    ("[]", A_STAR, None, ServeError::BadBundle),
-    ("{\"a\":\"\"}", A_STAR, None, ServeError::BadKey),
-    ("{\"a\":1}", A_STAR, None, ServeError::BadBundle),
-    (EMPTY, A_STAR, Some("p"), ServeError::BadPrelude),
-    (EMPTY, A_STAR, Some("//:z.star"), ServeError::NoPrelude),
-    (EMPTY, &["a.star"], None, ServeError::BadRoot),
-    (
-        "{\"//:a.star\":\"x = 1\"}",
-        &["//:z.star"],
-        None,
-        ServeError::NoRoot,
-    ),
-];
 
 /// Counts calls from 0. One of them fails.
 #[derive(Drop)]
@@ -86,7 +47,7 @@ impl Calls {
 
 /// Gives bytes, at most `piece` at a time. One read fails.
 #[derive(Drop)]
-pub(crate) struct Script<'a> {
+struct Script<'a> {
     rest: &'a [u8],
     piece: usize,
     calls: Calls,
@@ -114,21 +75,6 @@ impl<'a> Source for Script<'a> {
         self.rest = rest;
         self.ended = count == 0;
         Ok(count)
-    }
-}
-
-/// Gives spaces for ever.
-#[derive(Drop)]
-struct Spaces;
-
-impl Source for Spaces {
-    ghost said = { λ s. record { given = None; left = None; ended = false } };
-
-    ghost failed = { λ s. 0 };
-
-    fn read(&mut self, buffer: &mut [u8]) -> Result<usize, Failed> {
-        buffer.fill(b' ');
-        Ok(buffer.len())
     }
 }
 
@@ -160,7 +106,7 @@ impl Sink for Kept {
 /// More calls than are made: none fails.
 pub(crate) const NEVER: usize = 1_000_000;
 
-pub(crate) fn scripted(bytes: &[u8], piece: usize, fails_at: usize) -> Script<'_> {
+fn scripted(bytes: &[u8], piece: usize, fails_at: usize) -> Script<'_> {
     Script {
         rest: bytes,
         piece,
@@ -222,198 +168,32 @@ fn fails_by(rt: &impl Abort, answer: (Result<bool, ServeError>, Vec<u8>), want: 
     holds!(rt; written.is_empty());
 }
 
-/// The input is refused with this error, and nothing is written.
-fn refuses<H: Abort + Threads + Wait + Sync>(
+/// Asserts the report of a bundle without a root.
+fn no_file_is_reported<H: Abort + Threads + Wait + Sync>(
     rt: &H,
     alloc: Global,
-    input: &[u8],
-    want: ServeError,
-) -> Result<(), Fail> {
-    let answer = served(rt, alloc, &mut scripted(input, 7, NEVER), false)?;
-    fails_by(rt, answer, want);
-    Ok(())
-}
-
-fn asked_by(
-    alloc: Global,
-    case: &Case<'_>,
     loaders: usize,
-    trace: bool,
-) -> Result<Options, AllocError>
-    ensures { IfOk result (λ o. (1 ≤ o.loaders) × (o.loaders ≤ 64) × (1 ≤ o.steps) × (o.steps ≤ 100000000)) }
+) -> Result<(), Fail>
+    requires { (1 ≤ loaders) × (loaders ≤ 64) }
 {
-    let mut roots = Vec::new(alloc);
-    for root in case.roots {
-        roots.push(String::from_str(alloc, *root)?)?;
-    }
-    let prelude = match case.prelude {
-        Some(prelude) => Some(String::from_str(alloc, prelude)?),
-        None => None,
-    };
-    Ok(Options {
-        loaders: loaders.clamp(1, 64),
-        steps: case.steps.clamp(1, 100_000_000),
-        seed: 1,
-        roots,
-        prelude,
-        output: Output::Report(Wanted::NOTHING),
-        trace,
-        dir: None,
-        explain: None,
-        progress: None,
-    })
-}
-
-/// Asserts the answer and the bytes of the case. The lines of the trace are the lines of a run by one loader.
-fn comes_of<H: Abort + Threads + Wait + Sync>(
-    rt: &H,
-    alloc: Global,
-    case: &Case<'_>,
-    loaders: usize,
-    trace: Option<&str>,
-) -> Result<(), Fail> {
-    let options = asked_by(alloc, case, loaders, trace.is_some())?;
-    let mut reader = scripted(case.bundle.as_bytes(), 5, NEVER);
+    let mut options = options_of(alloc, loaders, "//:a.star")?;
+    options.roots = Vec::new(alloc);
+    options.trace = false;
+    let mut reader = scripted(b"{\"//:a.star\":\"x = 1\"}", 5, NEVER);
     let (mut writer, mut errors) = (writer_of(alloc, NEVER), writer_of(alloc, NEVER));
-    let answer = serve(rt, alloc, &mut reader, &mut writer, &mut errors, &options);
-    holds!(rt; answer == case.answer, case.report);
-    writes!(rt; writer.bytes.as_slice(), case.report);
-    if loaders == 1 || trace.is_none() {
-        writes!(rt; errors.bytes.as_slice(), trace.unwrap_or(""));
-    }
+    let outcome = serve(rt, alloc, &mut reader, &mut writer, &mut errors, &options);
+    holds!(rt; outcome == Ok(true));
+    writes!(rt; writer.bytes.as_slice(), "{\"begun\":0,\"modules\":[]}\n");
+    writes!(rt; errors.bytes.as_slice(), "");
     Ok(())
 }
 
 #[test]
-fn bundles_with_their_reports(rt: HostRuntime) -> Result<(), Fail> {
-    for case in &bundles::BUNDLES {
-        for loaders in [1, 2, 3, 4, 64] {
-            comes_of(&rt, rt.alloc(), case, loaders, None)?;
-            if case.trace.is_some() {
-                comes_of(&rt, rt.alloc(), case, loaders, case.trace)?;
-            }
-        }
+fn a_bundle_without_a_root(rt: HostRuntime) -> Result<(), Fail> {
+    for loaders in [1, 2, 3, 4, 64] {
+        no_file_is_reported(&rt, rt.alloc(), loaders)?;
     }
     Ok(())
-}
-
-/// The bundle of the file `//:a.star` with this text, and of the members after it.
-pub(crate) fn bundle_of(alloc: Global, text: &str, more: &str) -> Result<String, Fail> {
-    let text = Value::try_from_str(alloc, text)?.to_string(alloc)?;
-    Ok(format!(in alloc; "{{\"//:a.star\":{text}{more}}}")?)
-}
-
-/// The report of a file `//:a.star` with this status. `end` is its globals if it is ok, or else a fault and its line.
-fn report_of(alloc: Global, status: &str, end: &str) -> Result<String, Fail> {
-    if status == "ok" {
-        return Ok(format!(in alloc;
-            "{{\"begun\":1,\"modules\":[{{\"globals\":{{{end}}},\"label\":\"//:a.star\",\"lines\":[],\"status\":\"ok\"}}]}}\n"
-        )?);
-    }
-    let Some((fault, line)) = end.split_once(' ') else {
-        return Err(Fail::from("a row without a line"));
-    };
-    Ok(format!(in alloc;
-        "{{\"begun\":1,\"modules\":[{{\"fault\":\"{fault}\",\"label\":\"//:a.star\",\"line\":{line},\"lines\":[],\"status\":\"{status}\"}}]}}\n"
-    )?)
-}
-
-/// Asserts the report of a row's text, which is alone in its bundle, by one loader and by three.
-fn comes_of_row<H: Abort + Threads + Wait + Sync>(
-    rt: &H,
-    alloc: Global,
-    status: &str,
-    row: &str,
-) -> Result<(), Fail> {
-    let Some((text, end)) = row.split_once('\x1f') else {
-        return Err(Fail::from("a row without a result"));
-    };
-    let bundle = bundle_of(alloc, text, "")?;
-    let report = report_of(alloc, status, end)?;
-    let case = Case {
-        bundle: bundle.as_str(),
-        roots: A_STAR,
-        prelude: None,
-        steps: 1_000_000,
-        trace: None,
-        answer: Ok(status == "ok"),
-        report: report.as_str(),
-    };
-    comes_of(rt, alloc, &case, 1, None)?;
-    comes_of(rt, alloc, &case, 3, None)
-}
-
-#[test]
-fn files_that_end_well(rt: HostRuntime) -> Result<(), Fail> {
-    for row in programs::ENDS_WELL {
-        comes_of_row(&rt, rt.alloc(), "ok", row)?;
-    }
-    Ok(())
-}
-
-#[test]
-fn files_at_fault(rt: HostRuntime) -> Result<(), Fail> {
-    for row in programs::STATIC_FAULTS {
-        comes_of_row(&rt, rt.alloc(), "static", row)?;
-    }
-    for row in programs::FAULTS {
-        comes_of_row(&rt, rt.alloc(), "fault", row)?;
-    }
-    Ok(())
-}
-
-#[test]
-fn what_is_refused(rt: HostRuntime) -> Result<(), Fail> {
-    for (bundle, roots, prelude, error) in REFUSED {
-        let case = Case {
-            bundle,
-            roots,
-            prelude,
-            steps: 1_000_000,
-            trace: None,
-            answer: Err(error),
-            report: "",
-        };
-        for loaders in [1, 2, 3, 4, 64] {
-            comes_of(&rt, rt.alloc(), &case, loaders, None)?;
-        }
-    }
-    Ok(())
-}
-
-#[test]
-fn what_is_no_bundle(rt: HostRuntime) -> Result<(), Fail> {
-    for input in [
-        "",
-        "{\"//:a.star\":\"x",
-        "[]",
-        "{\"//:a.star\":1}",
-        "{\"//:a.star\":\"\\ud800\"}",
-        "{\"//:a.star\":\"\"} x",
-    ] {
-        refuses(&rt, rt.alloc(), input.as_bytes(), ServeError::BadBundle)?;
-    }
-    refuses(
-        &rt,
-        rt.alloc(),
-        b"{\"//:a.star\":\"\xff\"}",
-        ServeError::BadBundle,
-    )?;
-    refuses(&rt, rt.alloc(), b"{\"a\":\"\"}", ServeError::BadKey)?;
-    refuses(&rt, rt.alloc(), b"{\":a\":\"\"}", ServeError::BadKey)?;
-    refuses(&rt, rt.alloc(), b"{\"a\":1}", ServeError::BadBundle)?;
-    refuses(&rt, rt.alloc(), b"{\"//:b.star\":\"\"}", ServeError::NoRoot)
-}
-
-#[test]
-fn two_hundred_arrays_and_a_text_that_is_too_long(rt: HostRuntime) -> Result<(), Fail> {
-    let alloc = rt.alloc();
-    let (opened, closed) = ("[".repeat(alloc, 200)?, "]".repeat(alloc, 200)?);
-    let arrays = format!(in alloc; "{{\"//:a.star\":{opened}{closed}}}")?;
-    refuses(&rt, alloc, arrays.as_bytes(), ServeError::BadBundle)?;
-    let spaces = " ".repeat(alloc, 1_048_577)?;
-    let text = format!(in alloc; "{{\"//:a.star\":\"{spaces}\"}}")?;
-    refuses(&rt, alloc, text.as_bytes(), ServeError::TooLong)
 }
 
 /// Sixteen bytes are given in six reads, and a seventh finds the end.
@@ -429,13 +209,6 @@ fn a_reader_that_fails_at_each_call(rt: HostRuntime) -> Result<(), Fail> {
     let mut reader = scripted(EMPTY.as_bytes(), 3, 7);
     let (outcome, _) = served(&rt, alloc, &mut reader, false)?;
     holds!(&rt; outcome == Ok(true));
-    Ok(())
-}
-
-#[test]
-fn a_reader_that_never_ends(rt: HostRuntime) -> Result<(), Fail> {
-    let answer = served(&rt, rt.alloc(), &mut Spaces, false)?;
-    fails_by(&rt, answer, ServeError::TooBig);
     Ok(())
 }
 
@@ -464,15 +237,6 @@ fn a_trace_that_fails(rt: HostRuntime) -> Result<(), Fail> {
         writes!(&rt; errors.bytes.as_slice(), want);
         holds!(&rt; errors.failed == 1);
     }
-    Ok(())
-}
-
-#[test]
-fn statuses(rt: HostRuntime) -> Result<(), Fail> {
-    holds!(&rt; status(&Ok(true)) == 0);
-    holds!(&rt; status(&Ok(false)) == 1);
-    holds!(&rt; status(&Err(ServeError::NoRoot)) == 2);
-    holds!(&rt; ServeError::NoRoot.text() == "no such root");
     Ok(())
 }
 
@@ -525,10 +289,7 @@ fn served_dir<H: Threads + Wait + Sync>(
     rows: &[Row<'_>],
     fails_at: usize,
     fails: bool,
-    loaders: usize,
-) -> Result<(Result<bool, ServeError>, Vec<u8>), AllocError>
-    requires { (1 ≤ loaders) × (loaders ≤ 64) }
-{
+) -> Result<(Result<bool, ServeError>, Vec<u8>), AllocError> {
     let mut folder = Failing {
         folder: MemoryFolder::new(rows),
         calls: Calls::failing_at(fails_at),
@@ -537,7 +298,7 @@ fn served_dir<H: Threads + Wait + Sync>(
     };
     let mut writer = writer_of(alloc, if fails { 0 } else { NEVER });
     let mut errors = writer_of(alloc, NEVER);
-    let options = options_of(alloc, loaders, "//:a.star")?;
+    let options = options_of(alloc, 1, "//:a.star")?;
     let outcome = serve_dir(rt, alloc, &mut folder, &mut writer, &mut errors, &options);
     let Kept { bytes, .. } = writer;
     Ok((outcome, bytes))
@@ -557,19 +318,6 @@ fn two_files() -> [Row<'static>; 4] {
     ]
 }
 
-#[test]
-fn a_folder_is_reported(rt: HostRuntime) -> Result<(), Fail> {
-    let want =
-        "{\"begun\":2,\"modules\":[{\"globals\":{\"x\":\"1\"},\"label\":\"//:a.star\",\"lines\":[],\"status\":\"ok\"},{\"globals\":{\"k\":\"1\"},\"label\":\"//lib:b.star\",\"lines\":[],\"status\":\"ok\"}]}\n";
-    for loaders in [1, 3] {
-        let rows = two_files();
-        let (outcome, written) = served_dir(&rt, rt.alloc(), &rows, 99, false, loaders)?;
-        holds!(&rt; outcome == Ok(true));
-        writes!(&rt; written.as_slice(), want);
-    }
-    Ok(())
-}
-
 /// The top is listed, `a.star` read, `lib` listed and `b.star` read.
 #[test]
 fn a_folder_that_fails(rt: HostRuntime) -> Result<(), Fail> {
@@ -580,20 +328,10 @@ fn a_folder_that_fails(rt: HostRuntime) -> Result<(), Fail> {
         (3, ServeError::BadFile),
     ] {
         let rows = two_files();
-        let answer = served_dir(&rt, rt.alloc(), &rows, fails_at, false, 1)?;
+        let answer = served_dir(&rt, rt.alloc(), &rows, fails_at, false)?;
         fails_by(&rt, answer, want);
     }
-    let (outcome, _) = served_dir(&rt, rt.alloc(), &two_files(), 4, true, 1)?;
+    let (outcome, _) = served_dir(&rt, rt.alloc(), &two_files(), 4, true)?;
     holds!(&rt; outcome == Err(ServeError::Write));
-    Ok(())
-}
-
-#[test]
-fn a_folder_that_is_refused(rt: HostRuntime) -> Result<(), Fail> {
-    let rows = [row("", "a.star", Kind::File, b"\xff")];
-    let answer = served_dir(&rt, rt.alloc(), &rows, 99, false, 1)?;
-    fails_by(&rt, answer, ServeError::NotText);
-    let (outcome, _) = served_dir(&rt, rt.alloc(), &[], 99, false, 1)?;
-    holds!(&rt; outcome == Err(ServeError::NoRoot));
     Ok(())
 }

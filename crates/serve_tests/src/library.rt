@@ -4,7 +4,7 @@ ghost use Rattle.std.specs.Prelude.{◌≡◌, ◌<◌, All, length};
 ghost use Rattle.star_host.specs.Worlds.{IsContext};
 ghost use Rattle.star_outcome.specs.Fits.{IsAsked};
 
-use crate::runs::{BY_TWO, THREE, files_of};
+use crate::runs::{BY_TWO, files_of, three};
 use star_cache::{Book, LoadCache};
 use star_checks::holds;
 use star_host::gate::Open;
@@ -118,7 +118,7 @@ fn loads<R: Abort + Threads + Wait + Sync>(
 
 #[test]
 fn a_root_is_loaded_with_all_that_it_loads(rt: HostRuntime) -> Result<(), Fail> {
-    loads(&rt, rt.alloc(), &THREE, true, 3)
+    loads(&rt, rt.alloc(), &three(), true, 3)
 }
 
 #[test]

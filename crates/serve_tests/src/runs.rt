@@ -2,8 +2,8 @@
 
 ghost use Rattle.std.specs.Prelude.{◌≡◌, ◌<◌, ◌≤◌, All, IfOk, length};
 
-use star_checks::{holds, reads};
-use star_host::gate::{Gate, Open};
+use star_checks::holds;
+use star_host::gate::Gate;
 use star_host::{Reads, Run, RunOptions, run};
 use star_label::files::Files;
 use star_label::label::Label;
@@ -17,14 +17,16 @@ use std::test::Fail;
 use std::thread::Threads;
 
 /// Three files, two of which load the third, and one of them the other.
-pub const THREE: [(&str, &str); 3] = [
-    (
-        "//:a.star",
-        "load(\"//:b.star\", \"y\")\nload(\"//:c.star\", \"k\")\nx = y + k",
-    ),
-    ("//:b.star", "load(\"//:c.star\", \"k\")\ny = k"),
-    ("//:c.star", "k = 1"),
-];
+pub fn three() -> [(&'static str, &'static str); 3] {
+    [
+        (
+            "//:a.star",
+            "load(\"//:b.star\", \"y\")\nload(\"//:c.star\", \"k\")\nx = y + k",
+        ),
+        ("//:b.star", "load(\"//:c.star\", \"k\")\ny = k"),
+        ("//:c.star", "k = 1"),
+    ]
+}
 
 /// Two loaders, no roots and no prelude, and 100,000 steps for each body.
 pub const BY_TWO: RunOptions<'static> = RunOptions {
@@ -66,36 +68,6 @@ pub fn sums(alloc: Global, count: u32) -> Result<Files, Fail>
     Ok(Files::new(alloc, files)?)
 }
 
-/// The text of one of three hundred files: the first thirty lie on rings of three. Of the others each tenth loads one
-/// of these, and the nine after it are a chain.
-fn text_of(alloc: Global, n: u32) -> Result<String, Fail>
-    requires { n < 300 }
-{
-    let text = if n < 30 {
-        format!(in alloc;
-            "load(\":f{}.star\", \"x\")",
-            1000 + n - n % 3 + (n + 1) % 3
-        )?
-    } else if n % 10 == 0 {
-        format!(in alloc; "load(\":f{}.star\", y = \"x\")\nx = y", 1000 + n / 10)?
-    } else if n % 10 == 1 {
-        String::from_str(alloc, "x = 1")?
-    } else {
-        format!(in alloc; "load(\":f{}.star\", y = \"x\")\nx = y + 1", 999 + n)?
-    };
-    Ok(text)
-}
-
-/// Three hundred files, thirty of which are on cycles of loads.
-pub fn rings(alloc: Global) -> Result<Files, Fail> {
-    let mut files = BTreeMap::new(alloc);
-    for n in 0..300u32 {
-        let label = format!(in alloc; "//:f{}.star", 1000 + n)?;
-        files.insert(Label::read(alloc, label.as_str(), "")?, text_of(alloc, n)?)?;
-    }
-    Ok(Files::new(alloc, files)?)
-}
-
 /// The numbers of all files.
 pub fn all_roots(alloc: Global, files: &Files) -> Result<Vec<usize>, AllocError>
     ensures { IfOk result (λ v. All (λ n. n < length files.now) v.items) }
@@ -127,38 +99,22 @@ pub fn run_all<R: Threads + Wait + Sync, G: Gate + Sync>(
     Ok(run(rt, alloc, files, options, gate)?)
 }
 
-/// The report of a run without the member for loads, which does not need the read files.
+/// The report of a run, without further members.
 pub fn report_text<R: Threads + Sync>(
     rt: &R,
     alloc: Global,
     files: &Files,
     run: &mut Run,
-    roots: &[usize],
-    wanted: Wanted,
-    threads: usize,
 ) -> Result<String, Fail>
     requires { length run.old.cells ≡ length files.now }
 {
     let reads = Reads::new(alloc);
-    let options = ReportOptions { wanted, threads };
-    let text = report(rt, alloc, files, &reads, run, roots, options)?;
+    let options = ReportOptions {
+        wanted: Wanted::NOTHING,
+        threads: 1,
+    };
+    let text = report(rt, alloc, files, &reads, run, &[], options)?;
     Ok(String::from_utf8(text)?)
-}
-
-/// Asserts the report of a run, without further members.
-pub fn reports<R: Abort + Threads + Sync>(
-    rt: &R,
-    alloc: Global,
-    files: &Files,
-    run: &mut Run,
-    threads: usize,
-    want: &str,
-) -> Result<(), Fail>
-    requires { length run.old.cells ≡ length files.now }
-{
-    let text = report_text(rt, alloc, files, run, &[], Wanted::NOTHING, threads)?;
-    reads!(rt; text.as_str(), want);
-    Ok(())
 }
 
 /// Asserts how many files a run began, and how many each of its first loaders.
@@ -166,18 +122,4 @@ pub fn began(rt: &impl Abort, run: &Run, begun: u32, first: &[u32]) {
     let counts = run.per_loader();
     holds!(rt; run.begun() == begun);
     holds!(rt; counts.starts_with(first));
-}
-
-/// The report of a bundle whose files are all roots. Each body may take 100,000 steps.
-pub fn report_of<R: Threads + Wait + Sync>(
-    rt: &R,
-    alloc: Global,
-    bundle: &[(&str, &str)],
-    loaders: usize,
-) -> Result<String, Fail>
-    requires { (1 ≤ loaders) × (loaders ≤ 64) }
-{
-    let files = files_of(alloc, bundle)?;
-    let mut run = run_all(rt, alloc, &files, loaders, &Open)?;
-    report_text(rt, alloc, &files, &mut run, &[], Wanted::NOTHING, loaders)
 }

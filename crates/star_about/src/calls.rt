@@ -11,7 +11,7 @@ use star_meaning::fault::FaultCode;
 use star_store::values::Value;
 use star_text::Text;
 use star_tree::tree::{Argument, Expression, Parameter};
-use std::alloc::AllocError;
+use std::alloc::{AllocError, Global};
 
 /// At most this many items of a `*` or `**` argument are looked at.
 const MOST_ITEMS: usize = 10_000;
@@ -24,6 +24,34 @@ fn names_of(name: &str) -> Option<&'static [&'static str]> {
         "sorted" => Some(&["reverse"]),
         _ => Some(&[]),
     }
+}
+
+/// The texts of names.
+fn texts_of(alloc: Global, names: &[&str]) -> Result<Vec<Text>, AllocError> {
+    let mut texts = Vec::with_capacity(alloc, names.len())?;
+    for name in names {
+        texts.push(Text::new(alloc, *name)?)?;
+    }
+    Ok(texts)
+}
+
+/// A call whose arguments do not fit the parameters. `names` are the names that a keyword argument may have.
+fn misfitting(
+    alloc: Global,
+    at: usize,
+    token: Option<usize>,
+    callee: Shown,
+    (misfit, word): (Misfit, Option<usize>),
+    names: &[&str],
+) -> Result<Option<Found>, AllocError> {
+    let names = texts_of(alloc, names)?;
+    let about = About::Call {
+        is_named: token.is_some(),
+        callee,
+        misfit: Some(misfit),
+    };
+    let at = word.unwrap_or(at);
+    Ok(Some(Found { about, at, names }))
 }
 
 impl<'w, 'a, 't> Look<'w, 'a, 't> {
@@ -106,27 +134,6 @@ impl<'w, 'a, 't> Look<'w, 'a, 't> {
         Ok(Some(found_at(self.alloc, at, about)))
     }
 
-    /// A call whose arguments do not fit the parameters. `names` are the names that a keyword argument may have.
-    fn misfitting(
-        &mut self,
-        at: usize,
-        token: Option<usize>,
-        callee: Shown,
-        (misfit, word): (Misfit, Option<usize>),
-        names: &[&str],
-    ) -> Result<Option<Found>, AllocError> {
-        let about = About::Call {
-            is_named: token.is_some(),
-            callee,
-            misfit: Some(misfit),
-        };
-        let mut found = found_at(self.alloc, word.unwrap_or(at), about);
-        for name in names {
-            found.names.push(Text::new(self.alloc, *name)?)?;
-        }
-        Ok(Some(found))
-    }
-
     /// The parameters of a function.
     fn parameters(&self, value: Value) -> Option<&'t [Parameter]> {
         let (file, number) = definition_number(&self.machine, self.world.setting(), value)?;
@@ -154,7 +161,7 @@ impl<'w, 'a, 't> Look<'w, 'a, 't> {
             Some(misfit) => {
                 let names = keywords_of(self.alloc, parameters)?;
                 let callee = self.shown(value)?;
-                self.misfitting(at, token, callee, misfit, names.as_slice())
+                misfitting(self.alloc, at, token, callee, misfit, names.as_slice())
             }
             None => Ok(None),
         }
@@ -176,7 +183,14 @@ impl<'w, 'a, 't> Look<'w, 'a, 't> {
                         text: Text::new(self.alloc, name)?,
                     };
                     let misfit = Misfit::Unknown(named.name.share()?);
-                    return self.misfitting(at, Some(at), callee, (misfit, named.token), names);
+                    return misfitting(
+                        self.alloc,
+                        at,
+                        Some(at),
+                        callee,
+                        (misfit, named.token),
+                        names,
+                    );
                 }
             }
         }

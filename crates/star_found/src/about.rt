@@ -132,11 +132,21 @@ pub enum About {
 }
 
 /// A report on a fault: the part of the program that it is about, and its place.
-#[derive(Debug, Drop)]
+#[derive(Debug)]
 pub struct Found {
     pub about: About,
     /// The token of the word at fault; if no word is known, a token before the sign at fault.
     pub at: usize,
     /// Names that may have been meant by the word.
     pub names: Vec<Text>,
+}
+
+impl Drop for Found {
+    fn drop(self) {
+        let Found {
+            about: _,
+            at: _,
+            names: _,
+        } = self;
+    }
 }

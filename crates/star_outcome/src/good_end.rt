@@ -11,10 +11,15 @@ use std::sync::Arc;
 
 /// The end of a file whose run went well: the numbers of the files that it loads, in order, and its body, which the
 /// module of the file shares.
-#[derive(Drop)]
 pub struct GoodEnd {
     pub loads: Vec<usize>,
     pub body: Arc<Body>,
+}
+
+impl Drop for GoodEnd {
+    fn drop(self) {
+        let GoodEnd { loads: _, body: _ } = self;
+    }
 }
 
 impl Module {

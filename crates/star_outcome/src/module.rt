@@ -12,7 +12,6 @@ use star_text::Text;
 use std::sync::Arc;
 
 /// The result of a good run.
-#[derive(Drop)]
 pub struct Body {
     /// The stores of the file and of all files that its loads lead to.
     pub stores: StoreRow,
@@ -23,8 +22,18 @@ pub struct Body {
     pub paid: u32,
 }
 
+impl Drop for Body {
+    fn drop(self) {
+        let Body {
+            stores: _,
+            shown: _,
+            lines: _,
+            paid: _,
+        } = self;
+    }
+}
+
 /// The details of a fault that are for a person and not in the report.
-#[derive(Drop)]
 pub struct Left {
     /// The statements and calls that the fault passed on its way out, the innermost first.
     pub trail: Vec<Step>,
@@ -32,8 +41,13 @@ pub struct Left {
     pub found: Option<Found>,
 }
 
+impl Drop for Left {
+    fn drop(self) {
+        let Left { trail: _, found: _ } = self;
+    }
+}
+
 /// How a file has ended.
-#[derive(Drop)]
 pub enum Ended {
     /// It has a static fault.
     Static(StaticFault),
@@ -53,12 +67,37 @@ pub enum Ended {
     Good(Arc<Body>),
 }
 
+impl Drop for Ended {
+    fn drop(self) {
+        match self {
+            Ended::Static(_) => {}
+            Ended::Load { index: _, line: _ } => {}
+            Ended::Stopped {
+                code: _,
+                line: _,
+                lines: _,
+                left: _,
+            } => {}
+            Ended::Good(_) => {}
+        }
+    }
+}
+
 /// The result of a file: its number, the files that it loads, and how it ended.
-#[derive(Drop)]
 pub struct Module {
     pub number: usize,
     pub loads: Vec<usize>,
     pub ended: Ended,
+}
+
+impl Drop for Module {
+    fn drop(self) {
+        let Module {
+            number: _,
+            loads: _,
+            ended: _,
+        } = self;
+    }
 }
 
 impl Module {

@@ -11,10 +11,15 @@ use std::alloc::{AllocError, Global};
 use std::marker::Model;
 
 /// A file's number, and a note of its cell.
-#[derive(Drop)]
 pub struct Kept {
     pub number: usize,
     pub note: Note<Module>,
+}
+
+impl Drop for Kept {
+    fn drop(self) {
+        let Kept { number: _, note: _ } = self;
+    }
 }
 
 impl Model for Kept {
@@ -67,13 +72,24 @@ fn kept_again(alloc: Global, kept: &mut [Kept]) -> Result<Vec<Kept>, AllocError>
 
 /// The modules of all reached files in order of their numbers, the number of files that were begun, in all and by each
 /// loader, and the refused loads.
-#[derive(Drop)]
 pub struct Run {
     shelf: Shelf<Module>,
     kept: Vec<Kept>,
     begun: u32,
     per_loader: [u32; 64],
     refused: Vec<CyclicLoad>,
+}
+
+impl Drop for Run {
+    fn drop(self) {
+        let Run {
+            shelf: _,
+            kept: _,
+            begun: _,
+            per_loader: _,
+            refused: _,
+        } = self;
+    }
 }
 
 impl Model for Run {

@@ -12,10 +12,18 @@ use std::sync::Arc;
 const MERGE_FROM: usize = 32;
 
 /// The store of a file, shared by all modules that reach it.
-#[derive(Drop)]
 pub struct Reach {
     number: u32,
     store: Arc<Frozen>,
+}
+
+impl Drop for Reach {
+    fn drop(self) {
+        let Reach {
+            number: _,
+            store: _,
+        } = self;
+    }
 }
 
 impl Model for Reach {
@@ -64,10 +72,15 @@ impl Reach {
 
 /// A row of stores. The first are in blocks that it shares with the rows of other files. So the rows of a chain of
 /// files take memory in proportion to the chain, and a row is shared in few steps.
-#[derive(Drop)]
 pub struct StoreRow {
     blocks: Vec<Arc<Vec<Reach>>>,
     more: Vec<Reach>,
+}
+
+impl Drop for StoreRow {
+    fn drop(self) {
+        let StoreRow { blocks: _, more: _ } = self;
+    }
 }
 
 impl Model for StoreRow {

@@ -11,10 +11,15 @@ use std::collections::BTreeMap;
 use std::marker::Model;
 
 /// The names of a block, each once, in the order of their first bindings. A name's slot is its index among them.
-#[derive(Drop)]
 pub struct BlockNames<'t> {
     names: Vec<&'t str>,
     slots: BTreeMap<&'t str, usize>,
+}
+
+impl Drop for BlockNames<'_> {
+    fn drop(self) {
+        let BlockNames { names: _, slots: _ } = self;
+    }
 }
 
 impl<'t> Model for BlockNames<'t> {
@@ -87,17 +92,33 @@ impl<'t> BlockNames<'t> {
 
 /// A block. The file's own block has number 0, the block of a definition or a comprehension one more than the number of
 /// its first token.
-#[derive(Drop)]
 pub struct Block<'t> {
     pub number: usize,
     pub names: BlockNames<'t>,
 }
 
+impl Drop for Block<'_> {
+    fn drop(self) {
+        let Block {
+            number: _,
+            names: _,
+        } = self;
+    }
+}
+
 /// The blocks of a file. Of two blocks with one number the first is found.
-#[derive(Drop)]
 pub struct Blocks<'t> {
     blocks: Vec<Block<'t>>,
     index: Index,
+}
+
+impl Drop for Blocks<'_> {
+    fn drop(self) {
+        let Blocks {
+            blocks: _,
+            index: _,
+        } = self;
+    }
 }
 
 impl<'t> Model for Blocks<'t> {

@@ -35,10 +35,18 @@ pub struct Definition<'t> {
 }
 
 /// The definitions of a file. No two have one number.
-#[derive(Drop)]
 pub struct Definitions<'t> {
     definitions: Vec<Definition<'t>>,
     index: Index,
+}
+
+impl Drop for Definitions<'_> {
+    fn drop(self) {
+        let Definitions {
+            definitions: _,
+            index: _,
+        } = self;
+    }
 }
 
 impl<'t> Model for Definitions<'t> {

@@ -22,10 +22,18 @@ use std::sync::Wait;
 use std::thread::Threads;
 
 /// The result of reading a file: its program, or its static fault.
-#[derive(Drop)]
 pub enum Read<'t> {
     Program(Program<'t>),
     Fault(StaticFault),
+}
+
+impl Drop for Read<'_> {
+    fn drop(self) {
+        match self {
+            Read::Program(_) => {}
+            Read::Fault(_) => {}
+        }
+    }
 }
 
 /// The trees of the files that a run reads.

@@ -27,10 +27,15 @@ use star_tree::tree::{Form, Statement, Tree};
 use std::alloc::{AllocError, Global};
 
 /// The file that every other file loads first, and the names that its block binds.
-#[derive(Drop)]
 pub struct Prelude<'t> {
     pub file: usize,
     pub names: BlockNames<'t>,
+}
+
+impl Drop for Prelude<'_> {
+    fn drop(self) {
+        let Prelude { file: _, names: _ } = self;
+    }
 }
 
 /// The names that the block of a file binds.
@@ -185,7 +190,6 @@ fn first_fault(
 }
 
 /// A resolved file. Its statements, and the parameters and bodies of its definitions, are borrowed from the tree.
-#[derive(Drop)]
 pub struct Program<'t> {
     loads: Vec<Load>,
     statements: &'t [Statement],
@@ -193,6 +197,19 @@ pub struct Program<'t> {
     blocks: Blocks<'t>,
     loaded: BlockNames<'t>,
     spots: Spots,
+}
+
+impl Drop for Program<'_> {
+    fn drop(self) {
+        let Program {
+            loads: _,
+            statements: _,
+            definitions: _,
+            blocks: _,
+            loaded: _,
+            spots: _,
+        } = self;
+    }
 }
 
 impl<'t> Program<'t> {

@@ -20,11 +20,17 @@ enum Entry {
 }
 
 /// The bindings of names, by the numbers of their tokens. A look-up takes constant time.
-#[derive(Debug, Drop)]
+#[derive(Debug)]
 pub struct Spots {
     entries: Vec<Entry>,
     /// The spots that no entry has room for, by the numbers of their tokens. No file that a person writes has one.
     far: Vec<Option<Spot>>,
+}
+
+impl Drop for Spots {
+    fn drop(self) {
+        let Spots { entries: _, far: _ } = self;
+    }
 }
 
 impl Model for Spots {

@@ -48,7 +48,6 @@ impl Model for Arena {
 
 /// The store of a published module: its cells and its globals, which nothing changes any more. The values of a module
 /// with this number lead to its cells. Dictionaries of other modules that have its values for keys ask its table.
-#[derive(Drop)]
 pub struct Frozen {
     home: u32,
     cells: Vec<HeapCell>,
@@ -56,6 +55,19 @@ pub struct Frozen {
     table: Option<TableSlot>,
     globals: Vec<(String, Value)>,
     is_ordered: bool,
+}
+
+impl Drop for Frozen {
+    fn drop(self) {
+        let Frozen {
+            home: _,
+            cells: _,
+            indexes: _,
+            table: _,
+            globals: _,
+            is_ordered: _,
+        } = self;
+    }
 }
 
 impl Model for Frozen {

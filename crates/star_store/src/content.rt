@@ -42,9 +42,14 @@ pub enum Atom {
 }
 
 /// The content of a key, which may be hashed and compared with no store beside it.
-#[derive(Drop)]
 pub struct KeyContent {
     atoms: Atoms,
+}
+
+impl Drop for KeyContent {
+    fn drop(self) {
+        let KeyContent { atoms: _ } = self;
+    }
 }
 
 /// The atoms of a content. The one atom of a key that is not a tuple takes no memory of its own.

@@ -10,9 +10,14 @@ use std::marker::Model;
 use std::sync::ArcSlice;
 
 /// The values of a function's defaults, which the function shares with its frames.
-#[derive(Drop)]
 pub struct Defaults {
     values: Option<ArcSlice<Value>>,
+}
+
+impl Drop for Defaults {
+    fn drop(self) {
+        let Defaults { values: _ } = self;
+    }
 }
 
 impl Model for Defaults {

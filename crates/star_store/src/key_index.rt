@@ -23,10 +23,15 @@ pub(crate) const FEW_FAR: usize = 24;
 const MOST_HOMES: usize = 4;
 
 /// An index of a dictionary: the contents of its keys, or the numbers of the keys that other files made, in order.
-#[derive(Drop)]
 pub struct KeyIndex {
     keys: Index,
     homes: Vec<u32>,
+}
+
+impl Drop for KeyIndex {
+    fn drop(self) {
+        let KeyIndex { keys: _, homes: _ } = self;
+    }
 }
 
 impl Model for KeyIndex {

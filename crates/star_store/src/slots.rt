@@ -26,13 +26,24 @@ const REACH: usize = 12;
 /// The variables of a frame by their slots, each with a value or unbound. The first slots are in a vector, the others
 /// in a map once they are bound, so the memory is in proportion to the number of slots that were bound. A slot that is
 /// in neither has its default, if it has one.
-#[derive(Drop)]
 pub struct Slots {
     alloc: Global,
     count: usize,
     near: Vec<Option<Value>>,
     far: Option<Box<BTreeMap<usize, Value>>>,
     under: Option<Box<DefaultLayer>>,
+}
+
+impl Drop for Slots {
+    fn drop(self) {
+        let Slots {
+            alloc: _,
+            count: _,
+            near: _,
+            far: _,
+            under: _,
+        } = self;
+    }
 }
 
 /// The layer of defaults below the slots, and for each slot the number of its default, if it has one.

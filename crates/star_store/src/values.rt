@@ -36,9 +36,14 @@ pub enum Value {
 }
 
 /// A row of values: the items of a list or a tuple.
-#[derive(Drop)]
 pub struct Values {
     items: FrontGapVec<Value>,
+}
+
+impl Drop for Values {
+    fn drop(self) {
+        let Values { items: _ } = self;
+    }
 }
 
 impl Model for Values {
@@ -51,9 +56,14 @@ impl Model for Values {
 }
 
 /// The entries of a dictionary, in the order in which their keys were put in.
-#[derive(Drop)]
 pub struct Entries {
     pairs: FrontGapVec<(Value, Value)>,
+}
+
+impl Drop for Entries {
+    fn drop(self) {
+        let Entries { pairs: _ } = self;
+    }
 }
 
 impl Model for Entries {
@@ -67,7 +77,6 @@ impl Model for Entries {
 
 /// A function: the file and the number of its definition, its name, the defaults of its parameters, and the frame in
 /// which it was defined.
-#[derive(Drop)]
 pub struct Function {
     pub file: u32,
     pub definition: u32,
@@ -76,8 +85,19 @@ pub struct Function {
     pub frame: Value,
 }
 
+impl Drop for Function {
+    fn drop(self) {
+        let Function {
+            file: _,
+            definition: _,
+            name: _,
+            defaults: _,
+            frame: _,
+        } = self;
+    }
+}
+
 /// A frame: the file and the number of its block, the frame around it, and its variables.
-#[derive(Drop)]
 pub struct Frame {
     pub file: u32,
     pub block: u32,
@@ -85,10 +105,26 @@ pub struct Frame {
     pub slots: Slots,
 }
 
+impl Drop for Frame {
+    fn drop(self) {
+        let Frame {
+            file: _,
+            block: _,
+            parent: _,
+            slots: _,
+        } = self;
+    }
+}
+
 /// A frame in a place of its own, so that a cell is small.
-#[derive(Drop)]
 pub struct BoxedFrame {
     frame: Box<Frame>,
+}
+
+impl Drop for BoxedFrame {
+    fn drop(self) {
+        let BoxedFrame { frame: _ } = self;
+    }
 }
 
 impl Model for BoxedFrame {
@@ -126,7 +162,6 @@ impl BoxedFrame {
 }
 
 /// The content of a cell.
-#[derive(Drop)]
 pub enum Cell {
     Text(Text),
     Range(Range),
@@ -138,11 +173,34 @@ pub enum Cell {
     Bound(Method, Value),
 }
 
+impl Drop for Cell {
+    fn drop(self) {
+        match self {
+            Cell::Text(_) => {}
+            Cell::Range(_) => {}
+            Cell::Tuple(_) => {}
+            Cell::List(_) => {}
+            Cell::Dict(_) => {}
+            Cell::Func(_) => {}
+            Cell::Frame(_) => {}
+            Cell::Bound(_, _) => {}
+        }
+    }
+}
+
 /// A cell, and the number of iterations that are open on it.
-#[derive(Drop)]
 pub struct HeapCell {
     pub iterations: u32,
     pub cell: Cell,
+}
+
+impl Drop for HeapCell {
+    fn drop(self) {
+        let HeapCell {
+            iterations: _,
+            cell: _,
+        } = self;
+    }
 }
 
 impl Values {

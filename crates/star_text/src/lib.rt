@@ -20,9 +20,15 @@ use std::marker::Model;
 use std::sync::ArcStr;
 
 /// A string whose copies share its bytes. It is UTF-8 by its type. Contracts see it as its list of bytes.
-#[derive(Debug, Drop)]
+#[derive(Debug)]
 pub struct Text {
     inner: ArcStr,
+}
+
+impl Drop for Text {
+    fn drop(self) {
+        let Text { inner: _ } = self;
+    }
 }
 
 impl Model for Text {

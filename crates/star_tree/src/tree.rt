@@ -276,7 +276,12 @@ pub struct LoadedName {
 }
 
 /// The tree of a file.
-#[derive(Drop)]
 pub struct Tree {
     pub statements: Items<Statement>,
+}
+
+impl Drop for Tree {
+    fn drop(self) {
+        let Tree { statements: _ } = self;
+    }
 }

@@ -5,6 +5,7 @@ use Rattle.star_store.specs.declared.values.Value.{Value}
 use Rattle.star_store.specs.declared.values.Value.TheVariants as value
 use Rattle.star_store.specs.declared.values.Cell.{Cell}
 use Rattle.star_store.specs.declared.values.HeapCell.{HeapCell}
+use Rattle.star_store.specs.Write.{cell_at}
 use Rattle.star_store.specs.Store.{published_cells}
 use Rattle.star_meaning.specs.Run.{State}
 use Rattle.star_meaning.specs.Program.{Setting, seen}
@@ -21,19 +22,19 @@ pub cell_visible : (hides : Hides) (o : Option HeapCell) → Maybe (λ e. CellIs
 cell_visible hides None h = tt
 cell_visible hides (Some e) h = h
 
-found_visible : {w : Setting} (k : Veil w) (home at : ℕ) → IsVisible k.hides (value.Ref home at) → (o : Option HeapCell) → slice_get (published_cells (slice_get w.shelf home)) at ≡ o → Maybe (λ e. CellIsVisible k.hides e.cell) o
+found_visible : {w : Setting} (k : Veil w) (home at : ℕ) → IsVisible k.hides (value.Ref home at) → (o : Option Cell) → cell_at (published_cells (slice_get w.shelf home)) at ≡ o → Maybe (CellIsVisible k.hides) o
 found_visible k home at h None e = tt
 found_visible k home at h (Some c) e = k.contents home at c h e
 
 by_home : {w : Setting} (k : Veil w) (own : List HeapCell) (home at : ℕ) (b : Bool) → IsVisible k.hides (value.Ref home at)
     → at_home own (published_cells (slice_get w.shelf home)) at b ≡ at_home own (published_cells (slice_get k.other.shelf home)) at b
 by_home k own home at true h = refl
-by_home k own home at false h = ap (λ o. option_map (λ e. e.cell) o) (k.cells home at h)
+by_home k own home at false h = k.cells home at h
 
 visible_home : {w : Setting} (k : Veil w) (s : State) → StateIsVisible k.hides w.home s → (home at : ℕ) (b : Bool) → IsVisible k.hides (value.Ref home at)
     → Maybe (CellIsVisible k.hides) (at_home s.store.cells (published_cells (slice_get w.shelf home)) at b)
 visible_home k s c home at true h = cell_visible k.hides (slice_get s.store.cells at) (every_get _ s.store.cells at c.cells)
-visible_home {w = w} k s c home at false h = cell_visible k.hides (slice_get (published_cells (slice_get w.shelf home)) at) (found_visible k home at h _ refl)
+visible_home {w = w} k s c home at false h = found_visible k home at h _ refl
 
 -- a visible value leads to the same cell over both shelves
 pub same_seen : {w : Setting} (k : Veil w) (s : State) (v : Value) → IsVisible k.hides v → seen w s v ≡ seen (with_other k.other w) s v

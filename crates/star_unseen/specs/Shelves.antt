@@ -1,7 +1,8 @@
 -- Two shelves for a run, and two rows of outlines, that are the same but for what is hidden.
 use Rattle.std.specs.Prelude.{◌≡◌, false, ℕ, List, [], Option, Some, slice_get}
 use Rattle.std.specs.Option.{option_and_then}
-use Rattle.star_store.specs.declared.values.HeapCell.{HeapCell}
+use Rattle.star_store.specs.declared.values.Cell.{Cell}
+use Rattle.star_store.specs.Write.{cell_at}
 use Rattle.star_store.specs.declared.values.Value.{Value}
 use Rattle.star_store.specs.Store.{Shelf, global_of, published_cells}
 use Rattle.star_outline.specs.Definitions.{Body, Statements, Answer, Definition}
@@ -46,10 +47,10 @@ pub record Veil (w : Setting) : Type 0 where
   pub own : (at : ℕ) → hides.cell w.home at ≡ false
   pub own_file : FileIsVisible hides w.home
   pub cells : (home at : ℕ) → hides.cell home at ≡ false
-      → slice_get (published_cells (slice_get w.shelf home)) at
-      ≡ slice_get (published_cells (slice_get other.shelf home)) at
-  pub contents : (home at : ℕ) (e : HeapCell) → hides.cell home at ≡ false
-      → slice_get (published_cells (slice_get w.shelf home)) at ≡ Some e → CellIsVisible hides e.cell
+      → cell_at (published_cells (slice_get w.shelf home)) at
+      ≡ cell_at (published_cells (slice_get other.shelf home)) at
+  pub contents : (home at : ℕ) (c : Cell) → hides.cell home at ≡ false
+      → cell_at (published_cells (slice_get w.shelf home)) at ≡ Some c → CellIsVisible hides c
   pub prelude_file : (q : ℕ) → w.prelude ≡ Some q → FileIsVisible hides q
   pub prelude : (name : List ℕ) → IsSharedBy hides other w w.prelude name
   pub outline : (file : ℕ) → FileIsVisible hides file → outline_of w file ≡ outline_of (with_other other w) file

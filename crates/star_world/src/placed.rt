@@ -14,10 +14,18 @@ use std::alloc::{AllocError, Global};
 use std::marker::Model;
 
 /// The program of some file, and which of its definitions have parameters in order.
-#[derive(Drop)]
 pub struct IndexedProgram<'a, 't> {
     program: &'a Program<'t>,
     orders: Orders,
+}
+
+impl Drop for IndexedProgram<'_, '_> {
+    fn drop(self) {
+        let IndexedProgram {
+            program: _,
+            orders: _,
+        } = self;
+    }
 }
 
 impl<'a, 't> Model for IndexedProgram<'a, 't> {

@@ -1,24 +1,10 @@
-//! Tests of folders of the disk, as far as a test can see: it runs in a folder without files of the language.
+//! Tests of paths of the disk, and of the front of a file.
 
-use star_bundle::error::ServeError;
 use star_checks::{holds, reads};
-use star_folder::disk::{DiskFolder, front_at, path_of};
-use star_folder::walk::files_in;
+use star_folder::disk::{front_at, path_of};
 use star_label::label::Label;
 use std::fs;
 use std::test::Fail;
-
-#[test]
-fn folders_of_the_disk(rt: HostRuntime) -> Result<(), Fail> {
-    let alloc = rt.alloc();
-    let files = files_in(alloc, &mut DiskFolder::new(&rt, "."))?;
-    holds!(&rt; files.is_empty());
-    for none in ["", "no-such-folder"] {
-        let refused = files_in(alloc, &mut DiskFolder::new(&rt, none)).err();
-        holds!(&rt; refused == Some(ServeError::BadDir));
-    }
-    Ok(())
-}
 
 #[test]
 fn files_of_the_disk(rt: HostRuntime) -> Result<(), Fail> {

@@ -1,12 +1,9 @@
-//! Tests of labels and of numbered files, with values from the environment, so that no compiler can fold them.
+//! Tests of labels, with values from the environment, so that no compiler can fold them.
 
 use star_checks::{holds, reads};
 use star_label::error::LabelError;
-use star_label::files::Files;
 use star_label::label::Label;
 use star_label::segment::is_package;
-use std::alloc::Global;
-use std::collections::BTreeMap;
 use std::test::Fail;
 
 /// Rows: a text, the package that it is read in, and its normal form, or `!` if it is not a label.
@@ -108,73 +105,5 @@ fn stands_at_folders(rt: HostRuntime) -> Result<(), Fail> {
         let refused = Label::at(alloc, &[folder], name).err();
         holds!(&rt; refused == Some(LabelError::BadLabel), name);
     }
-    Ok(())
-}
-
-/// `count` files with empty texts, their labels made from last to first.
-fn many(alloc: Global, count: usize) -> Result<BTreeMap<Label, String>, Fail> {
-    let mut files = BTreeMap::new(alloc);
-    for n in 0..count {
-        let name = format!(in alloc; ":f{}", count.saturating_sub(n))?;
-        files.insert(Label::read(alloc, name.as_str(), "")?, String::new(alloc))?;
-    }
-    Ok(files)
-}
-
-#[test]
-fn takes_ten_thousand_files(rt: HostRuntime) -> Result<(), Fail> {
-    let alloc = rt.alloc();
-    let files = Files::new(alloc, many(alloc, 10_000)?)?;
-    holds!(&rt; files.len() == 10_000);
-    let more = Files::new(alloc, many(alloc, 10_001)?);
-    holds!(&rt; matches!(&more, Err(LabelError::TooMany)));
-    let none = Files::new(alloc, BTreeMap::new(alloc))?;
-    holds!(&rt; none.is_empty());
-    Ok(())
-}
-
-/// One file with a text of `bytes` bytes.
-fn one(alloc: Global, bytes: usize) -> Result<Result<Files, LabelError>, Fail> {
-    let text = "x".repeat(alloc, bytes)?;
-    let mut files = BTreeMap::new(alloc);
-    files.insert(Label::read(alloc, "//:a", "")?, text)?;
-    Ok(Files::new(alloc, files))
-}
-
-#[test]
-fn takes_a_text_of_a_mebibyte(rt: HostRuntime) -> Result<(), Fail> {
-    let alloc = rt.alloc();
-    let files = one(alloc, 1_048_576)??;
-    assert!(rt; files.len() == 1);
-    holds!(&rt; files.text(0).len() == 1_048_576);
-    let longer = one(alloc, 1_048_577)?;
-    holds!(&rt; matches!(&longer, Err(LabelError::TooLong)));
-    Ok(())
-}
-
-/// Four files, each with its label for its text.
-fn four(alloc: Global) -> Result<Files, Fail> {
-    let mut files = BTreeMap::new(alloc);
-    for name in ["//b:a", "//:z", "//a/b:x", "//a:y"] {
-        let text = String::from_str(alloc, name)?;
-        files.insert(Label::read(alloc, name, "")?, text)?;
-    }
-    Ok(Files::new(alloc, files)?)
-}
-
-#[test]
-fn numbers_by_the_order_of_labels(rt: HostRuntime) -> Result<(), Fail> {
-    let alloc = rt.alloc();
-    let files = four(alloc)?;
-    assert!(rt; files.len() == 4);
-    for (n, name) in ["//:z", "//a/b:x", "//a:y", "//b:a"].iter().enumerate() {
-        assert!(rt; n < files.len());
-        reads!(&rt; files.label(n).text(), *name);
-        reads!(&rt; files.text(n), *name);
-        let label = Label::read(alloc, *name, "")?;
-        holds!(&rt; files.find(&label) == Some(n));
-    }
-    let label = Label::read(alloc, "//:y", "")?;
-    holds!(&rt; files.find(&label) == None);
     Ok(())
 }

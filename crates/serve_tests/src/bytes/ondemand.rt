@@ -1,11 +1,10 @@
-//! Files on demand, from a folder in memory to the bytes of the report.
+//! Files on demand, from a folder in memory that fails where a script says so.
 
-ghost use Rattle.std.specs.Prelude.{◌≤◌};
 ghost use Rattle.star_repo.specs.Held.{unsaid};
 
 use crate::bytes::{NEVER, options_of, writer_of};
 use star_bundle::error::ServeError;
-use star_checks::{holds, reads, writes};
+use star_checks::{holds, reads};
 use star_folder::folder::FolderError;
 use star_label::label::Label;
 use star_repo::error::RepoError;
@@ -13,33 +12,23 @@ use star_repo::memory::{FileAt, MemoryRepo};
 use star_repo::repo::Repo;
 use star_serve::repo::serve_repo;
 use std::alloc::Global;
-use std::process::Abort;
 use std::sync::Wait;
 use std::test::Fail;
 use std::thread::Threads;
 
-/// `a.star` loads `b.star`, which loads a file that is not there. Nobody loads the others.
-const FILES: [FileAt<'static>; 4] = [
-    FileAt {
-        label: "//:a.star",
-        bytes: b"load('//lib:b.bzl', 'b')\nx = b",
-    },
-    FileAt {
-        label: "//lib:b.bzl",
-        bytes: b"\xef\xbb\xbfb = 2",
-    },
-    FileAt {
-        label: "//:latin.star",
-        bytes: b"\xff",
-    },
-    FileAt {
-        label: "//:c.star",
-        bytes: b"load(':none.star', 'x')",
-    },
-];
-
-const REPORT: &str =
-    "{\"begun\":2,\"modules\":[{\"globals\":{\"x\":\"2\"},\"label\":\"//:a.star\",\"lines\":[],\"status\":\"ok\"},{\"globals\":{\"b\":\"2\"},\"label\":\"//lib:b.bzl\",\"lines\":[],\"status\":\"ok\"}]}\n";
+/// `a.star` loads `b.bzl`, whose text comes after a byte order mark.
+fn two_files() -> [FileAt<'static>; 2] {
+    [
+        FileAt {
+            label: "//:a.star",
+            bytes: b"load('//lib:b.bzl', 'b')\nx = b",
+        },
+        FileAt {
+            label: "//lib:b.bzl",
+            bytes: b"\xef\xbb\xbfb = 2",
+        },
+    ]
+}
 
 /// A folder. One of its reads fails.
 #[derive(Drop)]
@@ -73,46 +62,20 @@ impl<'a> Repo for Failing<'a> {
     }
 }
 
-/// The answer for a root, or the text of the refusal, and the bytes that were written.
+/// The answer for the root `//:a.star`, or the text of the refusal, and the bytes that were written.
 fn asked<H: Threads + Wait + Sync, F: Repo>(
     rt: &H,
     alloc: Global,
     folder: &mut F,
-    root: &str,
-    loaders: usize,
-) -> Result<(String, Vec<u8>), Fail>
-    requires { (1 ≤ loaders) × (loaders ≤ 64) }
-{
+) -> Result<(String, Vec<u8>), Fail> {
     let mut writer = writer_of(alloc, NEVER);
     let mut errors = writer_of(alloc, NEVER);
-    let options = options_of(alloc, loaders, root)?;
+    let options = options_of(alloc, 4, "//:a.star")?;
     let said = match serve_repo(rt, alloc, folder, &mut writer, &mut errors, &options) {
         Ok(all_ok) => format!(in alloc; "{all_ok}")?,
         Err(error) => format!(in alloc; "{error}")?,
     };
     Ok((said, writer.bytes))
-}
-
-#[test]
-fn files_on_demand(rt: HostRuntime) -> Result<(), Fail> {
-    let alloc = rt.alloc();
-    for loaders in [1, 4, 16] {
-        let mut folder = MemoryRepo::new(&FILES);
-        let (said, written) = asked(&rt, alloc, &mut folder, "//:a.star", loaders)?;
-        reads!(&rt; said.as_str(), "true");
-        writes!(&rt; written.as_slice(), REPORT);
-        for (root, want) in [
-            ("//:c.star", "false"),
-            ("//:latin.star", "a file is not text: //:latin.star"),
-            ("//:none.star", "no such root"),
-            ("a.star", "bad root"),
-        ] {
-            let (said, written) = asked(&rt, alloc, &mut folder, root, loaders)?;
-            reads!(&rt; said.as_str(), want);
-            holds!(&rt; written.is_empty() == (want != "false"), want);
-        }
-    }
-    Ok(())
 }
 
 #[test]
@@ -123,12 +86,13 @@ fn each_read_on_demand_fails(rt: HostRuntime) -> Result<(), Fail> {
         (1, "cannot read a file: //lib:b.bzl"),
         (2, "true"),
     ] {
+        let files = two_files();
         let mut folder = Failing {
-            folder: MemoryRepo::new(&FILES),
+            folder: MemoryRepo::new(&files),
             left,
             failed: 0,
         };
-        let (said, written) = asked(&rt, alloc, &mut folder, "//:a.star", 4)?;
+        let (said, written) = asked(&rt, alloc, &mut folder)?;
         reads!(&rt; said.as_str(), want);
         holds!(&rt; written.is_empty() == (left < 2), want);
     }
@@ -141,7 +105,8 @@ fn a_report_on_demand_that_is_not_written(rt: HostRuntime) -> Result<(), Fail> {
     let mut writer = writer_of(alloc, 0);
     let mut errors = writer_of(alloc, NEVER);
     let options = options_of(alloc, 2, "//:a.star")?;
-    let mut folder = MemoryRepo::new(&FILES);
+    let files = two_files();
+    let mut folder = MemoryRepo::new(&files);
     match serve_repo(&rt, alloc, &mut folder, &mut writer, &mut errors, &options) {
         Err(
             RepoError::Run {

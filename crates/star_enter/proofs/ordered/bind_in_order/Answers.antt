@@ -33,7 +33,7 @@ returns c =
     sym (ap (λ s. list_all (is_set s) l.needed) all) ∙ sym (ap (λ is. list_all (is_set c.set_plain.new.slots) is) c.needed.ensures) ∙ sym c.are_set.ensures ∙ c.if-not-are_set.false in
     record {
       fits = fits l names ds g few taken enough set;
-      slots = c.slots-2.view_is ∙ all;
+      slots = all;
       rest = c.rest.ensures;
       more = more;
       others = c.names.ensures;
