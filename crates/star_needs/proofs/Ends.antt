@@ -37,7 +37,7 @@ loads_stay files others prelude is_in same n loads h are p r is read =
     let back = readings_stay others files prelude is_in (same_back is_in prelude files others same) p n r h is read in
     are p r back.0 back.1
 
-ordered_to : (files others : List File) → labels_of files ≡ labels_of others → IsOrdered files → IsOrdered others
+pub ordered_to : (files others : List File) → labels_of files ≡ labels_of others → IsOrdered files → IsOrdered others
 ordered_to files others labels ordered = subst (λ (ls : List (List ℕ)). IsStrictlySortedBy (slice_cmp nat_cmp) ls) labels ordered
 
 module _ (files others : List File) (p q : Plan) (is_in : ℕ → Bool) (ordered : IsOrdered files) (is : IsPlanOf files p) (also : IsPlanOf others q) (prelude : p.prelude ≡ q.prelude) (same : HaveSame is_in p.prelude files others) where
@@ -83,21 +83,21 @@ there_by : (o : Option Reading) → is_some o ≡ true → (r : Reading) × (o �
 there_by None e = absurd (let no : ⊥ = cc in no)
 there_by (Some r) e = (r, refl)
 
-abbrev both : (ℕ → Bool) → Plan → Plan → ℕ → Bool
+abbrev pub both : (ℕ → Bool) → Plan → Plan → ℕ → Bool
 both is_in p q n = is_in n && (is_some (read_of p n) && is_some (read_of q n))
 
-record InBoth (is_in : ℕ → Bool) (p q : Plan) (n : ℕ) : Type 0 where
-  within : is_in n ≡ true
-  one : (r : Reading) × (read_of p n ≡ Some r)
-  other : (r : Reading) × (read_of q n ≡ Some r)
+pub record InBoth (is_in : ℕ → Bool) (p q : Plan) (n : ℕ) : Type 0 where
+  pub within : is_in n ≡ true
+  pub one : (r : Reading) × (read_of p n ≡ Some r)
+  pub other : (r : Reading) × (read_of q n ≡ Some r)
 
-in_both : (is_in : ℕ → Bool) (p q : Plan) (n : ℕ) → both is_in p q n ≡ true → InBoth is_in p q n
+pub in_both : (is_in : ℕ → Bool) (p q : Plan) (n : ℕ) → both is_in p q n ≡ true → InBoth is_in p q n
 in_both is_in p q n e =
     let x = and_both (is_in n) (is_some (read_of p n) && is_some (read_of q n)) e in
     let y = and_both (is_some (read_of p n)) (is_some (read_of q n)) x.1 in
     record { within = x.0; one = there_by (read_of p n) y.0; other = there_by (read_of q n) y.1 }
 
-to_both : (is_in : ℕ → Bool) (p q : Plan) (n : ℕ) (r s : Reading) → is_in n ≡ true → read_of p n ≡ Some r → read_of q n ≡ Some s → both is_in p q n ≡ true
+pub to_both : (is_in : ℕ → Bool) (p q : Plan) (n : ℕ) (r s : Reading) → is_in n ≡ true → read_of p n ≡ Some r → read_of q n ≡ Some s → both is_in p q n ≡ true
 to_both is_in p q n r s h x y = and_all (is_in n) _ h (and_all (is_some (read_of p n)) (is_some (read_of q n)) (ap is_some x) (ap is_some y))
 
 module _ (files others : List File) (p q : Plan) (is_in : ℕ → Bool) (ordered : IsOrdered files) (is : IsPlanOf files p) (also : IsPlanOf others q) (prelude : p.prelude ≡ q.prelude) (steps : p.steps ≡ q.steps) (same : HaveSame is_in p.prelude files others) (closed : (n m : ℕ) → is_in n ≡ true → Loads (loaded p) n m → is_in m ≡ true) where
@@ -146,7 +146,7 @@ bodies_for_all_roots files plan ordered is n b reached body = for_all_roots (λ 
 -- ---- a plan of the files before: its roots are the files of the set that a plan of the files after has read
 
 -- the numbers of these readings, from the number i on
-abbrev numbers : ℕ → List (Option Reading) → List ℕ
+abbrev pub numbers : ℕ → List (Option Reading) → List ℕ
 numbers i [] = []
 numbers i (None ∷ rs) = numbers (i + 1) rs
 numbers i (Some r ∷ rs) = i ∷ numbers (i + 1) rs
@@ -181,10 +181,10 @@ kept_length : (is_in : ℕ → Bool) (i : ℕ) (rs : List (Option Reading)) → 
 kept_length is_in i [] = refl
 kept_length is_in i (r ∷ rs) = ap suc (kept_length is_in (i + 1) rs)
 
-abbrev own : (ℕ → Bool) → Plan → Plan
+abbrev pub own : (ℕ → Bool) → Plan → Plan
 own is_in q = record q { roots = numbers 0 (kept is_in 0 q.reads); reads = kept is_in 0 q.reads }
 
-root_there : (is_in : ℕ → Bool) (q : Plan) (n : ℕ) (r : Reading) → read_of (own is_in q) n ≡ Some r → IsReached (own is_in q) n
+pub root_there : (is_in : ℕ → Bool) (q : Plan) (n : ℕ) (r : Reading) → read_of (own is_in q) n ≡ Some r → IsReached (own is_in q) n
 root_there is_in q n r e =
     let same : 0 + n ≡ n = omega arith in
     root (subst (λ k. Contains (numbers 0 (kept is_in 0 q.reads)) k) same (to_numbers 0 (kept is_in 0 q.reads) n r e))

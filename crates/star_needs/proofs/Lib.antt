@@ -12,3 +12,12 @@ pub mod Among
 pub mod Moves
 pub mod Bodies
 pub mod Ends
+pub mod Data
+pub mod PlacedParts
+pub mod PlacedBodies
+pub mod VisiblePlaces
+pub mod Below
+pub mod SoundFiles
+pub mod Steps
+pub mod VeilOver
+pub mod Kept

@@ -43,7 +43,7 @@ labels_by_number (x ∷ xs) (y ∷ ys) e h =
     ap (λ z. z ∷ labels_of xs) (h 0 (omega arith)) ∙ ap (λ zs. y.0 ∷ zs) (labels_by_number xs ys size (λ n less. h (suc n) (omega (arith, less))))
 
 -- beyond the files there is no text
-no_text : (files : List File) (n : ℕ) → length files ≤ n → text_at files n ≡ []
+pub no_text : (files : List File) (n : ℕ) → length files ≤ n → text_at files n ≡ []
 no_text [] n h = refl
 no_text (x ∷ xs) zero h = absurd (let no : ⊥ = omega (arith, h) in no)
 no_text (x ∷ xs) (suc n) h = no_text xs n (omega (arith, h))
@@ -76,7 +76,7 @@ module _ (files others : List File) (labels : labels_of files ≡ labels_of othe
   reads_to : (n : ℕ) (ss : List Statement) (rs : List Read) → AreReadIn files n ss rs → AreReadIn others n ss rs
   reads_to n ss rs (are, leads) = (are, subst (λ l. AllLead others (package_of l) rs) (label_same files others labels n) (leads_to (package_of (label_at files n)) rs leads))
 
-  resolved_to : (n : ℕ) (o : Option Prelude) (ss : List Statement) (p : Program) → Resolves files n o ss (Ok p) → Resolves others n o ss (Ok p)
+  pub resolved_to : (n : ℕ) (o : Option Prelude) (ss : List Statement) (p : Program) → Resolves files n o ss (Ok p) → Resolves others n o ss (Ok p)
   resolved_to n o ss p (rs, are, none, is) = (rs, reads_to n ss rs are, none, is)
 
   refused_to : (n : ℕ) (o : Option Prelude) (ss : List Statement) (e : ScopeFault) → Resolves files n o ss (Err e) → Resolves others n o ss (Err e)

@@ -65,7 +65,7 @@ then-same : {A B : Type 0} (o : Option A) (f g : A → Option B) → ((x : A) �
 then-same None f g h = refl
 then-same (Some x) f g h = h x refl
 
-are_good : (plan : Plan) (d : ℕ) (ns : List ℕ) (ms : List Local) → all_good (map (result plan d) ns) ≡ Some ms → AreGood plan ns ms
+pub are_good : (plan : Plan) (d : ℕ) (ns : List ℕ) (ms : List Local) → all_good (map (result plan d) ns) ≡ Some ms → AreGood plan ns ms
 are_good plan d [] [] e = tt
 are_good plan d [] (m ∷ ms) e = absurd (let no : ⊥ = cc in no)
 are_good plan d (n ∷ ns) ms e =

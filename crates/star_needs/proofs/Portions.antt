@@ -1,7 +1,6 @@
 -- The runs of a plan and of a part of it are the same.
-use Rattle.std.proofs.Common.{◌≡◌, ℕ, zero, suc, Bool, true, false, nat_eq, List, [], ◌∷◌, ◌++◌, length, eqb-true, map, Option, Some, None, refl, ap, sym, subst, ◌∙◌, if◌then◌else◌}
+use Rattle.std.proofs.Common.{◌≡◌, ℕ, zero, suc, Bool, true, false, nat_eq, List, [], ◌∷◌, length, eqb-true, map, Option, Some, None, refl, ap, sym, subst, ◌∙◌, if◌then◌else◌}
 use Rattle.std.specs.Prelude.{slice_get}
-use Rattle.std.specs.List.{flat_map}
 use Rattle.std.specs.Option.{option_flatten, option_map}
 use Rattle.std.proofs.lemmas.Option.{slice_get-map}
 use Rattle.star_cache.specs.State.{Loads}
@@ -21,17 +20,13 @@ use Rattle.star_meaning.specs.Programs.{Files, load_files, tables_of}
 use Rattle.star_meaning.specs.Run.{State}
 use Rattle.star_meaning.specs.Variables.{by_names}
 use Rattle.star_meaning.proofs.ByPlaces.{places_mean_names}
-use Rattle.star_plan.specs.Plan.{Plan, Reading, Sound, loaded, loads_in, loads_of, read_of, tree_in, trees}
-use Rattle.star_plan.specs.Reading.{IsPlanOf, IsPrelude, IsRead, statements_in}
-use Rattle.star_scope.specs.declared.loads.Load.{Load}
-use Rattle.star_scope.specs.declared.program.Prelude.{Prelude}
-use Rattle.star_scope.specs.Loads.{load_of, prelude_loads}
-use Rattle.star_scope.specs.Resolve.{prelude_names, seen_by}
+use Rattle.star_plan.specs.Plan.{Plan, Reading, loaded, loads_in, loads_of, read_of, tree_in, trees}
+use Rattle.star_plan.specs.Reading.{IsPlanOf}
 use Rattle.star_plan.specs.Results.{AreGood}
 use Rattle.star_plan.specs.Runs.{ArePlaced, PreludeIsSound, given}
 use Rattle.star_plan.proofs.Fit.{fit_at}
 use Rattle.star_plan.proofs.Outcomes.{gather}
-use Rattle.star_plan.proofs.Seen.{result-sound, stands}
+use Rattle.star_plan.proofs.Seen.{stands}
 use Rattle.star_plan.proofs.Tables.{first_load, head_sound, sound_read, tables_right}
 use Rattle.star_needs.specs.Agree.{IsPartOf, RunsAgree}
 use Rattle.star_needs.specs.Laws.{PartsHaveResults, PartsRun}

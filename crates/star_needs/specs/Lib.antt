@@ -3,3 +3,4 @@ pub mod Agree
 pub mod Laws
 pub mod Ends
 pub mod Texts
+pub mod Changed

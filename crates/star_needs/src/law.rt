@@ -1,6 +1,7 @@
 //! Laws: the outcome of a file depends only on all that it needs. They are first about plans that agree on this, then
 //! about files, by their labels and texts.
 
+ghost use Rattle.star_needs.specs.Changed.{KeptResultsStay};
 ghost use Rattle.star_needs.specs.Laws.{OneEndByNeeds, OneModuleByNeeds, OneOutcomeByNeeds, OneResultByNeeds};
 ghost use Rattle.star_needs.specs.Laws.{OneRunByNeeds, PartsHaveResults, PartsRun};
 ghost use Rattle.star_needs.specs.Texts.{BodiesForAllRoots, BodiesStay, EndsForAllRoots, EndsStay};
@@ -100,3 +101,12 @@ pub fn ends_stay()
 pub fn bodies_stay()
     ensures { BodiesStay }
 {}
+
+/// A good file stays as it was, with its own module, globals, texts, lines and paid steps, in two plans that agree on
+/// it but for changed files: what it loads of these is the same data in both.
+pub fn kept_results_stay()
+    ensures { KeptResultsStay }
+{
+    star_unseen::files_run_the_same();
+    star_unseen::files_without_loads_run_the_same();
+}
