@@ -210,5 +210,6 @@ pub fn read_alone<'t>(
 {
     let block = block_of(alloc, files, trees, prelude)?;
     let all = read_by(alloc, files, trees, block.as_ref(), roots)?;
-    Ok(Reads { all })
+    let others = Vec::new(alloc);
+    Ok(Reads { all, others })
 }

@@ -36,8 +36,8 @@ pub(crate) fn report_alone(
     roots: &[usize],
     wanted: Wanted,
 ) -> Result<Vec<u8>, AllocError>
-    requires files { length run.old.cells ≡ length files.now }
     requires loads { LeadToFiles files.now reads.now.all.items }
+    requires files { length run.old.cells ≡ length files.now }
     ensures same { run.new ≡ run.old }
     ensures text { IfOk result (λ s. ReportsRun wanted files.now reads.now.all.items roots.now run.old s.items) }
 {

@@ -93,9 +93,9 @@ fn run_named<'s, 'r, 'p, 't, J: RunId>(
     requires world { IsContext J.files J.plan J.shelf common.now }
     requires within { IsWithin J.files J.plan }
     requires roots { common.now.roots.now ≡ J.plan.roots }
+    ensures begun { IfOk result (λ c. c.begun ≡ vec_len c.kept) }
     ensures kept { IfOk result (λ c. AllKept common.now.modules.now c.kept.items) }
     ensures modules { IfOk result (λ c. AreModules J.plan c.kept.items) }
-    ensures begun { IfOk result (λ c. c.begun ≡ vec_len c.kept) }
     ensures refused { IfOk result (λ c. AreRefusals J.plan c.refused.items) }
 {
     let alloc = common.alloc;

@@ -1,9 +1,9 @@
 //! The JSON of files that fail by a static fault or by a load, in a check as in the report of a run.
 
 ghost use Rattle.std.specs.Prelude.{◌≡◌, ◌<◌, All, IfOk, length, map};
+ghost use Rattle.star_cause.specs.Causes.{IsBelow, cause_of};
 ghost use Rattle.serde_json.specs.Data.{string};
 ghost use Rattle.serde_json.specs.View.{view};
-ghost use Rattle.star_cause.specs.Causes.{IsBelow, cause_of};
 ghost use Rattle.star_label.specs.Files.{label_at};
 ghost use Rattle.star_plan.specs.Text.{load_data, static_data};
 ghost use Rattle.star_reading.specs.Codes.{fault_of};

@@ -34,22 +34,6 @@ pub enum FolderError {
     Memory,
 }
 
-impl From<AllocError> for FolderError {
-    ghost from_gives = { λ _ e. e ≡ Memory };
-
-    fn from(_error: AllocError) -> FolderError {
-        FolderError::Memory
-    }
-}
-
-impl<T: Drop> From<AllocFailed<T>> for FolderError {
-    ghost from_gives = { λ _ e. e ≡ Memory };
-
-    fn from(_error: AllocFailed<T>) -> FolderError {
-        FolderError::Memory
-    }
-}
-
 /// A folder with files and folders in it.
 pub trait Folder {
     /// Its content, if it tells.
@@ -75,4 +59,20 @@ pub trait Folder {
         ensures same { holds self.new ≡ holds self.old }
         ensures listings { failed_listings self.new ≡ failed_listings self.old }
         ensures reads { failed_reads self.new ≡ failed_reads self.old + has_failed result };
+}
+
+impl From<AllocError> for FolderError {
+    ghost from_gives = { λ _ e. e ≡ Memory };
+
+    fn from(_error: AllocError) -> FolderError {
+        FolderError::Memory
+    }
+}
+
+impl<T: Drop> From<AllocFailed<T>> for FolderError {
+    ghost from_gives = { λ _ e. e ≡ Memory };
+
+    fn from(_error: AllocFailed<T>) -> FolderError {
+        FolderError::Memory
+    }
 }

@@ -10,6 +10,7 @@ use Rattle.star_plan.specs.Plan.{Plan}
 use Rattle.star_plan.specs.Reached.{IsReached}
 use Rattle.star_outcome.specs.GoodEnds.{AreGoodEndsOf}
 use Rattle.star_outcome.specs.Views.{IsBody, IsEnd}
+use Rattle.star_outcome.proofs.GoodEnds.{fresh_body}
 use Rattle.star_outcome.specs.declared.module.Body.{Body}
 use Rattle.star_outcome.specs.declared.module.Ended.TheVariants.{Good}
 use Rattle.star_host.specs.Worlds.{HasBody, IsContext}
@@ -23,4 +24,4 @@ no_ends files roots prelude steps plan planned of_roots of_prelude of_steps n e 
 pub known_end : (files : List File) (plan : Plan) (shelf : List ℕ) (c : LoadContext) (n : ℕ) (o : Option (Arc Body Global)) (b : Arc Body Global) → IsContext files plan shelf c → IsReached plan n → o ≡ Some b → IfSome o (HasBody c n) → IsEnd plan n (Good b)
 known_end files plan shelf c n o b world reached is known =
     let has : HasBody c n b = subst (λ x. IfSome x (HasBody c n)) is known in
-    subst (IsBody plan n) (sym has.2) (world.ends_are n has.0 has.1 reached).body
+    subst (IsBody plan n) (sym has.3) (fresh_body plan n has.0 (world.ends_are n has.0 has.1 reached) has.2)

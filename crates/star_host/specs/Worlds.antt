@@ -1,7 +1,7 @@
 -- The data that loaders share: `IsContext` says that it is right for a plan. Also the facts at a turn of a file whose
 -- loads are being asked for.
 use Rattle.std.specs.Arc.{arc_value}
-use Rattle.std.specs.Prelude.{◌≡◌, ◌+◌, ◌^◌, ◌<◌, ◌≤◌, ℕ, List, IfSome, Some, length, slice_get}
+use Rattle.std.specs.Prelude.{◌≡◌, ◌+◌, ◌^◌, ◌<◌, ◌≤◌, ℕ, false, List, IfSome, Some, length, slice_get}
 use Rattle.std.specs.declared.sync.Arc.{Arc}
 use Rattle.star_cache.specs.State.{Loads}
 use Rattle.star_cache.specs.Walk.{IsOnCycle}
@@ -46,9 +46,13 @@ MayWork files plan shelf c =
 abbrev pub plan_in : LoadContext → Plan
 plan_in c = record { roots = c.roots.now; prelude = c.prelude; steps = c.steps; reads = readings c.reads.now }
 
--- the end of the file n is known, and has this body
+-- this end of the file n is known
+abbrev pub HasEnd : LoadContext → ℕ → GoodEnd → Type 0
+HasEnd c n e = slice_get c.ends.now n ≡ Some (Some e)
+
+-- the end of the file n is known, is not stale, and has this body
 abbrev pub HasBody : {Z : Type 0} → LoadContext → ℕ → Arc Body Z → Type 0
-HasBody c n b = (e : GoodEnd) × (slice_get c.ends.now n ≡ Some (Some e)) × (arc_value b ≡ arc_value e.body)
+HasBody c n b = (e : GoodEnd) × HasEnd c n e × (e.is_stale ≡ false) × (arc_value b ≡ arc_value e.body)
 
 abbrev pub IsTurn : List File → Plan → Turn → Type 0
 IsTurn files plan Again = Unit {0}

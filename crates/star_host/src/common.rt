@@ -3,7 +3,7 @@
 ghost use Rattle.std.specs.Prelude.{◌≡◌, ◌+◌, ◌^◌, ◌<◌, ◌≤◌, All, IfOk, IfSome, length, slice_get};
 ghost use Rattle.star_outcome.specs.Fits.{IsAsked, IsWithin};
 ghost use Rattle.star_outcome.specs.GoodEnds.{AreGoodEndsOf};
-ghost use Rattle.star_host.specs.Worlds.{HasBody, IsContext, plan_in};
+ghost use Rattle.star_host.specs.Worlds.{HasBody, HasEnd, IsContext, plan_in};
 ghost use Rattle.star_reading.specs.Found.{IsReadOf};
 ghost use Rattle.star_reading.specs.Readings.{loads_at, table_of};
 
@@ -87,13 +87,23 @@ impl<'s, 'r, 'p, 't> LoadContext<'s, 'r, 'p, 't> {
         }
     }
 
-    /// The body of a file whose good end is known, shared with it. The error: an allocation failed.
+    /// The body of a file whose good end is known and not stale, shared with it. The error: an allocation failed.
     pub(crate) fn body(&self, n: usize) -> Result<Option<Arc<Body>>, AllocError>
         ensures { IfOk result (λ r. IfSome r (HasBody self.now n)) }
     {
-        match self.ends.get(n) {
-            Some(Some(end)) => Ok(Some(Arc::try_clone(&end.body)?)),
+        match self.end(n) {
+            Some(end) if !end.is_stale => Ok(Some(Arc::try_clone(&end.body)?)),
             _ => Ok(None),
+        }
+    }
+
+    /// The good end of a file, if it is known.
+    pub(crate) fn end(&self, n: usize) -> Option<&'s GoodEnd>
+        ensures { IfSome result (λ e. HasEnd self.now n e.now) }
+    {
+        match self.ends.get(n) {
+            Some(Some(end)) => Some(end),
+            _ => None,
         }
     }
 

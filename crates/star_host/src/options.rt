@@ -20,7 +20,7 @@ pub struct RunOptions<'a> {
     pub seed: u64,
 }
 
-/// The facts that are known of the files before a run.
+/// The facts that are known of the files before a run, besides the readings of some.
 #[derive(Clone, Copy)]
 pub struct Known<'k, 't> {
     /// Where the trees of the other files are put.

@@ -3,7 +3,7 @@
 ghost use Rattle.std.specs.Prelude.{◌≡◌, ◌<◌, ◌≤◌, ◌⊎◌, ℕ, All, None, Some, count_by, is_some, length, map, max, sum, vec_len, IfOk, IfSome};
 ghost use Rattle.star_outcome.specs.Fits.{IsAsked, IsWithin};
 ghost use Rattle.star_outcome.specs.GoodEnds.{AreGoodEndsOf};
-ghost use Rattle.star_reading.specs.Found.{IsReadOf, Within};
+ghost use Rattle.star_reading.specs.Found.{AreKnown, IsReadOf, Within};
 ghost use Rattle.star_host.specs.Counts.{AreCounts};
 ghost use Rattle.star_host.specs.Worlds.{IsContext, MayWork, plan_in};
 ghost use Rattle.star_outcome.specs.Kept.{AllKept, AreModules, AreModulesOf};
@@ -35,8 +35,8 @@ use std::alloc::{AllocError, Global};
 use std::marker::Brand;
 use std::sync::Wait;
 use std::sync::ledger::Blank;
-use std::thread;
 use std::thread::Threads;
+use std::{mem, thread};
 
 /// Why a run fails. It has no text of its own: it becomes a `ServeError`, whose text the program shows.
 #[derive(Clone, Copy, Debug, PartialEq, Eq)]
@@ -334,12 +334,12 @@ pub fn run<R: Threads + Wait + Sync, G: Gate + Sync>(
     requires prelude { IfSome options.prelude (λ n. n < length files.now) }
     requires loaders { (1 ≤ options.loaders) × (options.loaders ≤ 64) }
     requires steps { (1 ≤ options.steps) × (options.steps ≤ 100000000) }
-    ensures files { IfOk result (λ r. length r.cells ≡ length files.now) }
-    ensures modules { let o = options.entry in
-        IfOk result (λ r. AreModulesOf files.now o.roots.now o.prelude o.steps r.kept) }
     ensures begun { IfOk result (λ r. r.begun ≡ length r.kept) }
     ensures sum { IfOk result (λ r. sum r.per_loader ≡ r.begun) }
     ensures counts { IfOk result (λ r. AreCounts options.entry.loaders r.begun r.per_loader) }
+    ensures files { IfOk result (λ r. length r.cells ≡ length files.now) }
+    ensures modules { let o = options.entry in
+        IfOk result (λ r. AreModulesOf files.now o.roots.now o.prelude o.steps r.kept) }
     ensures refused { let o = options.entry in
         IfOk result (λ r. AreRefusalsOf files.now o.roots.now o.prelude o.steps r.refused) }
 {
@@ -367,9 +367,10 @@ fn enough(loaders: usize, reads: &Reads, ends: &[Option<GoodEnd>]) -> usize
     loaders.min(read_count(reads).saturating_sub(idle)).max(1)
 }
 
-/// As `run`, with the facts that are known of the files before it. The trees and the read files stay with the caller,
-/// who may leave them to the end of the process: to free them takes a tenth of the time of a run of many small files.
-/// The errors are those of `run`.
+/// As `run`, with the facts that are known of the files before it. Files whose readings are in `reads` are not read
+/// again; after the run it has the readings of the run. The trees and the read files stay with the caller, who may leave
+/// them to the end of the process: to free them takes a tenth of the time of a run of many small files. The errors are
+/// those of `run`.
 pub fn run_in<'t, R: Threads + Wait + Sync, G: Gate + Sync>(
     rt: &R,
     alloc: Global,
@@ -380,12 +381,15 @@ pub fn run_in<'t, R: Threads + Wait + Sync, G: Gate + Sync>(
     gate: &G,
 ) -> Result<Run, RunError>
     requires parses { AreParsesOf files.now known.parses.now }
+    requires reads { AreKnown files.now options.prelude reads.old.all.items }
     requires ends { let o = options in AreGoodEndsOf files.now o.roots.now o.prelude o.steps known.ends.now }
     requires roots { Within files.now options.roots.now }
     requires prelude { IfSome options.prelude (λ n. n < length files.now) }
     requires loaders { (1 ≤ options.loaders) × (options.loaders ≤ 64) }
     requires steps { (1 ≤ options.steps) × (options.steps ≤ 100000000) }
-    ensures read { IfOk result (λ _. IsReadOf files.now options.entry.roots.now options.entry.prelude reads.new.all.items) }
+    ensures read { IfOk result (λ _.
+        IsReadOf files.now options.entry.roots.now options.entry.prelude reads.new.all.items) }
+    ensures others { IfOk result (λ _. AreKnown files.now options.entry.prelude reads.new.others.items) }
     ensures files { IfOk result (λ r. length r.cells ≡ length files.now) }
     ensures modules { let o = options.entry in
         IfOk result (λ r. AreModulesOf files.now o.roots.now o.prelude o.steps r.kept) }
@@ -407,7 +411,8 @@ pub fn run_in<'t, R: Threads + Wait + Sync, G: Gate + Sync>(
         trees: known.trees,
         parses: known.parses,
     };
-    *reads = read_parsed(rt, alloc, texts, roots, prelude, loaders)?;
+    let before = mem::replace(reads, Reads::new(alloc));
+    *reads = read_parsed(rt, alloc, texts, before, roots, prelude, loaders)?;
     gate.before_bodies(read_count(reads));
     let options = RunOptions {
         loaders: enough(loaders, reads, known.ends),

@@ -83,12 +83,20 @@ pub(crate) fn read_count(reads: &Reads) -> usize
     reads.all.iter().filter(|read| read.is_some()).count()
 }
 
-/// The number of files that were read and whose ends are known.
+/// Whether an end is known, and not stale.
+fn is_whole(end: &Option<GoodEnd>) -> bool {
+    match end {
+        Some(end) => !end.is_stale,
+        None => false,
+    }
+}
+
+/// The number of files that were read and whose ends are known, and not stale.
 pub(crate) fn known_count(reads: &Reads, ends: &[Option<GoodEnd>]) -> usize {
     reads
         .all
         .iter()
         .zip(ends.iter())
-        .filter(|(read, end)| read.is_some() && end.is_some())
+        .filter(|(read, end)| read.is_some() && is_whole(end))
         .count()
 }

@@ -1,14 +1,15 @@
 //! The run of one file: its body, over the stores of all files that it needs, or its end, if it is known already.
 
-ghost use Rattle.std.specs.Prelude.{◌≡◌, ◌<◌, ◌≤◌, Some, IfOk, ℕ, Contains, length, map};
+ghost use Rattle.std.specs.Prelude.{◌≡◌, ◌<◌, ◌≤◌, Some, IfOk, IfSome, ℕ, length, map};
+ghost use Rattle.star_outcome.specs.Fits.{IsAsked};
 ghost use Rattle.star_host.specs.Bodies.{IsRan, IsRunOf, MeansLocal};
 ghost use Rattle.star_host.specs.Worlds.{IsContext};
 ghost use Rattle.star_meaning.specs.Programs.{file_in, placed_file};
-ghost use Rattle.star_outcome.specs.Fits.{IsAsked};
-ghost use Rattle.star_outcome.specs.Gathered.{AreNeeded};
+ghost use Rattle.star_outcome.specs.Gathered.{AreNeeded, IsListed};
+ghost use Rattle.star_outcome.specs.Homes.{shelf_of};
 ghost use Rattle.star_outcome.specs.Reaches.{row_of};
-ghost use Rattle.star_outcome.specs.Views.{AreGoodLoads, IsEnd};
 ghost use Rattle.star_plan.specs.Plan.{loads_of};
+ghost use Rattle.star_outcome.specs.Views.{AreGoodLoads, IsBody, IsEnd};
 ghost use Rattle.star_plan.specs.Shelves.{Needs};
 ghost use Rattle.star_reading.specs.Readings.{read_at};
 ghost use Rattle.star_reading.specs.declared.reading.Read.TheVariants as read;
@@ -25,7 +26,7 @@ use star_outcome::run_id::RunId;
 use star_outcome::store_row::StoreRow;
 use star_scope::loads::Load;
 use star_scope::program::Program;
-use star_store::arena::{Frozen, Homes};
+use star_store::arena::Frozen;
 use star_world::files::Files;
 use star_world::world::World;
 use std::alloc::{AllocError, Global};
@@ -35,18 +36,19 @@ use std::sync::Arc;
 fn outcome_in<'s, 'r, 'p, 't>(
     common: &LoadContext<'s, 'r, 'p, 't>,
     home: u32,
-    homes: &Homes,
+    reaches: &StoreRow,
     program: &Program,
     prelude: Option<u32>,
 ) -> Result<Outcome, AllocError>
     requires stands { file_in common.now.programs.now home ≡ Some (placed_file program.now) }
     requires steps { (1 ≤ common.now.steps) × (common.now.steps ≤ 100000000) }
-    ensures names { MeansLocal (world_of home homes.now common.now.programs.now program.now.loads.items prelude)
-        common.now.steps program.now.statements.now result }
-    ensures named { IsRunOf (world_of home homes.now common.now.programs.now program.now.loads.items prelude)
-        common.now.steps program.now.statements.now result }
+    ensures names { MeansLocal (world_of home (shelf_of reaches.now) common.now.programs.now
+        program.now.loads.items prelude) common.now.steps program.now.statements.now result }
+    ensures named { IsRunOf (world_of home (shelf_of reaches.now) common.now.programs.now
+        program.now.loads.items prelude) common.now.steps program.now.statements.now result }
 {
-    let world = World::new(home, homes, common.programs, program.loads(), prelude);
+    let homes = reaches.homes(common.alloc)?;
+    let world = World::new(home, &homes, common.programs, program.loads(), prelude);
     run_body(common.alloc, &world, program, common.steps, common.seed)
 }
 
@@ -110,7 +112,7 @@ fn ended_of<J: RunId>(
     requires ran { IsRan J.plan home outcome }
     requires steps { steps ≡ J.plan.steps }
     requires needed { AreNeeded J.plan home (row_of reaches) }
-    requires all { (k : ℕ) → Needs J.plan home k → Contains (map (λ r. r.number) (row_of reaches)) k }
+    requires all { (k : ℕ) → Needs J.plan home k → IsListed (row_of reaches) k }
     ensures { IfOk result (IsEnd J.plan home) }
 {
     match outcome {
@@ -151,11 +153,11 @@ fn ended_of<J: RunId>(
 /// Answers the end of the file.
 fn run<'s, 'r, 'p, 't, J: RunId, G: Gate>(
     common: &LoadContext<'s, 'r, 'p, 't>,
-    gate: &G,
-    loader: usize,
     n: usize,
     program: &'r Program<'t>,
     modules: &[&'s Module],
+    gate: &G,
+    loader: usize,
 ) -> Result<Ended, AllocError>
     requires world { IsContext J.files J.plan J.shelf common.now }
     requires file { n < length J.files }
@@ -163,12 +165,11 @@ fn run<'s, 'r, 'p, 't, J: RunId, G: Gate>(
     requires loads { AreGoodLoads J.plan n (length (loads_of J.plan n)) (map (λ m. m.now) modules.now) }
     ensures { IfOk result (IsEnd J.plan n) }
 {
-    let given = gathered::<J>(common.alloc, n, modules)?;
-    let (homes, reaches) = given.parts();
+    let reaches = gathered::<J>(common.alloc, n, modules)?;
     let prelude = common.prelude_file();
     let home = file_number(common.files, n);
     gate.before_body(loader, n);
-    let outcome = outcome_in(common, home, &homes, program, prelude);
+    let outcome = outcome_in(common, home, &reaches, program, prelude);
     gate.after_body(loader, n);
     let outcome = outcome?;
     let found = found_of(
@@ -181,6 +182,26 @@ fn run<'s, 'r, 'p, 't, J: RunId, G: Gate>(
         prelude,
     );
     ended_of::<J>(common.alloc, home, outcome, common.steps, reaches, found)
+}
+
+/// The body of a file whose good end is stale: the same over the stores that its loads have now. None if the end is not
+/// known. The error: an allocation failed.
+fn renewed<'s, 'r, 'p, 't, J: RunId>(
+    common: &LoadContext<'s, 'r, 'p, 't>,
+    n: usize,
+    modules: &[&'s Module],
+) -> Result<Option<Body>, AllocError>
+    requires world { IsContext J.files J.plan J.shelf common.now }
+    requires asked { IsAsked J.files J.plan n }
+    requires loads { AreGoodLoads J.plan n (length (loads_of J.plan n)) (map (λ m. m.now) modules.now) }
+    ensures { IfOk result (λ r. IfSome r (IsBody J.plan n)) }
+{
+    let Some(end) = common.end(n) else {
+        return Ok(None);
+    };
+    let reaches = gathered::<J>(common.alloc, n, modules)?;
+    let home = file_number(common.files, n);
+    end.body.over::<J>(common.alloc, home, reaches)
 }
 
 /// The end of a file whose loads are all good: the one that is known already, or else the end of its run. The gate is
@@ -199,8 +220,11 @@ pub(crate) fn body_end<'s, 'r, 'p, 't, J: RunId, G: Gate>(
     requires loads { AreGoodLoads J.plan n (length (loads_of J.plan n)) (map (λ m. m.now) modules.now) }
     ensures { IfOk result (IsEnd J.plan n) }
 {
-    match common.body(n)? {
-        Some(body) => Ok(Ended::Good(body)),
-        None => run::<J, G>(common, gate, loader, n, program, modules),
+    if let Some(body) = common.body(n)? {
+        return Ok(Ended::Good(body));
+    }
+    match renewed::<J>(common, n, modules)? {
+        Some(body) => Ok(Ended::Good(Arc::new(common.alloc, body)?)),
+        None => run::<J, G>(common, n, program, modules, gate, loader),
     }
 }

@@ -5,7 +5,7 @@ use denote.RattleType.{RattleType}
 use denote.Ref.{NamedLft}
 use denote.Struct.Tuple.{Tuple, TupleAt}
 use denote.Param.Send.{IsSend, IsSync, sendable}
-use denote.Param.SendFields.{variants_send}
+use denote.Param.SendFields.{variants_send, variants_sync}
 use Rattle.std.proofs.Crossing.{crosses}
 use Rattle.std.specs.contracts.result.Result as result
 use Rattle.std.specs.contracts.vec.Vec as vec
@@ -17,7 +17,10 @@ use Rattle.star_flow.proofs.search.Search.TheSendSync as of_search
 use Rattle.star_label.proofs.files.Files.TheSendSync as of_labels
 use Rattle.star_lex.proofs.token.SyntaxFault.TheSendSync as of_syntax
 use Rattle.star_reading.proofs.Closures.{captured, closure_sync}
+use Rattle.star_reading.specs.contracts.reading.Read as read
+use Rattle.star_reading.proofs.Crossing.{program_sync}
 use Rattle.star_reading.proofs.Moving.{tree_send, tree_sync}
+use Rattle.star_reading.proofs.code.StaticFault.TheSendSync as of_fault
 use Rattle.star_memo.specs.contracts.parses.Parse as parse
 use Rattle.star_memo.specs.contracts.ahead.Parser as parser
 
@@ -34,14 +37,18 @@ numbered_send = let p = parse_send in search sendable depth 20
 pub share_send : IsSend (result.the_row (vec.the_row numbered heap.the_row ghosts) refusal.the_row)
 share_send = let n = numbered_send in search (sendable, crosses) depth 20
 
-parser_sync : (κ ν : NamedLft) → IsSync (parser.the_row κ ν)
-parser_sync κ ν =
+read_sync : (κ : NamedLft) → IsSync (read.the_row κ)
+read_sync κ = variants_sync (read.enum κ) ((program_sync κ, tt), ((of_fault.the_sync, tt), tt))
+
+parser_sync : (κ ν μ : NamedLft) → IsSync (parser.the_row κ ν μ)
+parser_sync κ ν μ =
     let l = of_labels.the_sync in
     let f = of_syntax.the_sync in
     let s = tree_send in
     let y = tree_sync in
+    let r = read_sync μ in
     search (sendable, crosses) depth 40
 
 -- a parser's closure: it captures the parser, the runtime R, and the search
-pub parsers_sync : (R : RattleType) (α β γ δ ε : NamedLft) → IsSync R → (ν : List ℕ) → IsSync (TupleAt ν (captured (parser.the_row β γ) R search_of.the_row α δ ε))
-parsers_sync R α β γ δ ε r ν = closure_sync (parser.the_row β γ) R search_of.the_row α δ ε (parser_sync β γ) r of_search.the_sync ν
+pub parsers_sync : (R : RattleType) (α β γ δ ε ζ : NamedLft) → IsSync R → (ν : List ℕ) → IsSync (TupleAt ν (captured (parser.the_row β γ ζ) R search_of.the_row α δ ε))
+parsers_sync R α β γ δ ε ζ r ν = closure_sync (parser.the_row β γ ζ) R search_of.the_row α δ ε (parser_sync β γ ζ) r of_search.the_sync ν

@@ -1,5 +1,5 @@
 -- Outcomes that stay, and outcomes that a run leaves.
-use Rattle.std.proofs.Common.{◌≡◌, ◌&&◌, ℕ, zero, suc, ◌<◌, Bool, true, false, List, [], ◌∷◌, length, map, Contains, Option, Some, None, get_or, slice_get, slice_index_or, refl, sym, subst, ap, ◌∙◌, arith}
+use Rattle.std.proofs.Common.{◌≡◌, ◌&&◌, ℕ, zero, suc, ◌<◌, Bool, true, false, List, [], ◌∷◌, length, map, Contains, Option, Some, get_or, slice_get, slice_index_or, refl, sym, subst, ap, ◌∙◌, arith}
 use Rattle.std.specs.Arc.{arc_value}
 use Rattle.std.specs.List.{list_all}
 use Rattle.std.specs.Prelude.{slice_set}
@@ -13,9 +13,12 @@ use Rattle.star_plan.specs.Reached.{IsReached, load}
 use Rattle.star_plan.specs.Reading.{IsPlanOf}
 use Rattle.star_outcome.specs.GoodEnds.{AreGoodEndsOf, AreReachedEnds}
 use Rattle.star_outcome.specs.declared.good_end.GoodEnd.{GoodEnd}
+use Rattle.star_outcome.proofs.GoodEnds.{fresh_body, good_by}
 use Rattle.star_needs.specs.Ends.{AreLoadsUnder, HaveSame, IsClosed}
-use Rattle.star_needs.proofs.Ends.{bodies_for_all_roots, bodies_stay, loads_for_all_roots, loads_in_plans, loads_stay}
-use Rattle.star_memo.specs.Outcomes.{AreMarkedOf, AreOutcomes, AreStaying, HaveLabels, IsOutcome, IsStaying, is_marked}
+use Rattle.star_needs.proofs.Among.{to_common}
+use Rattle.star_needs.proofs.Ends.{bodies_for_all_roots, bodies_stay, loads_for_all_roots, loads_in_plans, loads_stay, own, own_is, root_there, same_back}
+use Rattle.star_memo.specs.Lasting.{AreEndsNow, IsEndNow}
+use Rattle.star_memo.specs.Outcomes.{AreMarkedOf, AreOutcomes, AreStaying, HasRun, HaveLabels, IsOutcome, IsStaying, is_marked}
 
 both : (a b : Bool) → (a && b) ≡ true → (a ≡ true) × (b ≡ true)
 both true b h = (refl, h)
@@ -53,6 +56,19 @@ texts_stay files others prelude steps all marks are h plan planned p s (suc k) n
     let among : Contains stay.end.loads.items u = subst (λ ns. Contains ns u) (sym loads) first in
     texts_stay files others prelude steps all marks are h plan planned p s k u m rest (load reached first) (one_of (is_marked marks) stay.end.loads.items u stay.loads among)
 
+-- so they are closed among the files that take their place
+closed_too : (files others : List File) (prelude : Option ℕ) (is_in : ℕ → Bool) → HaveSame is_in prelude files others → IsClosed files prelude is_in → IsClosed others prelude is_in
+closed_too files others prelude is_in s c = λ n h.
+    let own_loads = c n h in (own_loads.0, loads_stay files others prelude is_in s n own_loads.0 h own_loads.1, own_loads.2)
+
+-- a run that reaches a marked file has one of the files that take their place
+run_stays : (files others : List File) (prelude : Option ℕ) (steps : ℕ) (is_in : ℕ → Bool) → HaveSame is_in prelude files others → IsClosed files prelude is_in → (n : ℕ) → is_in n ≡ true → HasRun files prelude steps n → HasRun others prelude steps n
+run_stays files others prelude steps is_in s c n m (p, is, at, paid, reached) =
+    let back : HaveSame is_in p.prelude others files = subst (λ o. HaveSame is_in o others files) (sym at) (same_back is_in prelude files others s) in
+    let again : IsClosed others p.prelude is_in = subst (λ o. IsClosed others o is_in) (sym at) (closed_too files others prelude is_in s c) in
+    let one = (is.reached n).0 reached in
+    (own is_in p, own_is others files p is_in is back again, at, paid, root_there is_in p n one.0 (to_common is_in p n m ∙ one.1))
+
 stays : (files others : List File) (prelude : Option ℕ) (steps : ℕ) (all : List (Option GoodEnd)) (marks : List Bool) → IsOrdered files → HaveLabels files others → ((q : ℕ) → prelude ≡ Some q → text_at files q ≡ text_at others q) → AreOutcomes files prelude steps all → AreStaying files others all marks → (n : ℕ) (e : GoodEnd) → is_marked marks n ≡ true → slice_get all n ≡ Some (Some e) → IsOutcome others prelude steps n e
 stays files others prelude steps all marks ordered l p are h n e m k =
     let s = same files others prelude all marks l p h in
@@ -61,6 +77,8 @@ stays files others prelude steps all marks ordered l p are h n e m k =
     record {
       loads = loads_stay files others prelude (is_marked marks) s n e.loads.items m o.loads;
       body = bodies_stay (arc_value e.body) files others prelude steps (is_marked marks) ordered s c n m o.body;
+      run = run_stays files others prelude steps (is_marked marks) s c n m o.run;
+      fresh = o.fresh;
     }
 
 -- the outcomes that are left stay right if the files change so
@@ -68,14 +86,23 @@ pub all_stay : (files others : List File) (prelude : Option ℕ) (steps : ℕ) (
 all_stay files others prelude steps before after marks ordered l p are h of = λ n e k.
     let o = of n e k in stays files others prelude steps before marks ordered l p are h n e o.0 o.1
 
--- outcomes are good ends in each plan of the files, whatever its roots
+-- an outcome is an end as it is now
+pub outcome_now : (files : List File) (prelude : Option ℕ) (steps n : ℕ) (e : GoodEnd) → IsOutcome files prelude steps n e → IsEndNow files prelude steps n e
+outcome_now files prelude steps n e o = record {
+  loads = o.loads;
+  end = λ plan planned p s reached. good_by plan n e (loads_in_plans files prelude steps n e.loads.items o.loads plan planned p s reached) (o.body plan planned p s reached);
+}
+
+pub outcomes_now : (files : List File) (prelude : Option ℕ) (steps : ℕ) (all : List (Option GoodEnd)) → AreOutcomes files prelude steps all → AreEndsNow files prelude steps all
+outcomes_now files prelude steps all are = λ n e k. outcome_now files prelude steps n e (are n e k)
+
+-- ends as they are now are good ends in each plan of the files, whatever its roots
+pub ends_of_now : (files : List File) (roots : List ℕ) (prelude : Option ℕ) (steps : ℕ) (all : List (Option GoodEnd)) → AreEndsNow files prelude steps all → AreGoodEndsOf files roots prelude steps all
+ends_of_now files roots prelude steps all are = λ plan planned r p s n e k reached. (are n e k).end plan planned p s reached
+
+-- so are outcomes
 pub ends_of : (files : List File) (roots : List ℕ) (prelude : Option ℕ) (steps : ℕ) (all : List (Option GoodEnd)) → AreOutcomes files prelude steps all → AreGoodEndsOf files roots prelude steps all
-ends_of files roots prelude steps all are = λ plan planned r p s n e k reached.
-    let o = are n e k in
-    record {
-      loads = loads_in_plans files prelude steps n e.loads.items o.loads plan planned p s reached;
-      body = o.body plan planned p s reached;
-    }
+ends_of files roots prelude steps all are = ends_of_now files roots prelude steps all (outcomes_now files prelude steps all are)
 
 -- the good ends that a run leaves are outcomes of the files, whatever its roots were
 pub left_by : (files : List File) (plan : Plan) (all : List (Option GoodEnd)) → IsOrdered files → IsPlanOf files plan → AreReachedEnds plan all → AreOutcomes files plan.prelude plan.steps all
@@ -83,7 +110,9 @@ left_by files plan all ordered planned are = λ n e k.
     let o = are n e k in
     record {
       loads = subst (λ ns. AreLoadsUnder files plan.prelude n ns) (sym o.1.loads) (loads_for_all_roots files plan ordered planned n o.0);
-      body = bodies_for_all_roots files plan ordered planned n (arc_value e.body) o.0 o.1.body;
+      body = bodies_for_all_roots files plan ordered planned n (arc_value e.body) o.0 (fresh_body plan n e o.1 o.2);
+      run = (plan, planned, refl, refl, o.0);
+      fresh = o.2;
     }
 
 -- as many files, with the same label at each number, have the same labels in order
@@ -97,7 +126,7 @@ labels_to (x ∷ xs) (y ∷ ys) e h =
 
 -- one more mark
 
-more_marked : (marks : List Bool) (n k : ℕ) → is_marked marks k ≡ true → is_marked (slice_set marks n true) k ≡ true
+pub more_marked : (marks : List Bool) (n k : ℕ) → is_marked marks k ≡ true → is_marked (slice_set marks n true) k ≡ true
 more_marked [] n k h = h
 more_marked (m ∷ ms) zero zero h = refl
 more_marked (m ∷ ms) zero (suc k) h = h

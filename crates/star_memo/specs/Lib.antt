@@ -1,2 +1,4 @@
 pub mod Parses
 pub mod Outcomes
+pub mod Readings
+pub mod Lasting

@@ -7,7 +7,7 @@ use crate::parses::{Parse, parse_of};
 use star_flow::Search;
 use star_label::files::Files;
 use star_reading::parses::Parsed;
-use star_reading::reading::numbers;
+use star_reading::reading::{Read, numbers};
 use star_scope::error::ScopeFault;
 use star_scope::loads::find_loads;
 use std::alloc::{AllocError, Global};
@@ -15,11 +15,13 @@ use std::sync::Wait;
 use std::thread;
 use std::thread::Threads;
 
-/// Files, and the results of parsing some of their texts, by the numbers of the files.
+/// Files, the results of reading some of them, and those of parsing some of their texts, by the numbers of the files.
 #[derive(Drop)]
-pub(crate) struct Parser<'s, 't> {
+pub(crate) struct Parser<'s, 't, 'u> {
     pub alloc: Global,
     pub files: &'s Files,
+    /// The loads of a file that was read are known without a search of its tree.
+    pub reads: &'s [Option<Read<'u>>],
     /// None for a text that is not parsed yet.
     pub parses: &'s [Option<Parsed<'t>>],
 }
@@ -27,20 +29,7 @@ pub(crate) struct Parser<'s, 't> {
 /// The results that one thread has made, by the numbers of their files. The error: an allocation failed.
 pub(crate) type Made = Result<Vec<(usize, Parse)>, AllocError>;
 
-/// The files that are reached first: the roots, and the prelude.
-pub(crate) fn first_files(
-    alloc: Global,
-    roots: &[usize],
-    prelude: Option<usize>,
-) -> Result<Vec<usize>, AllocError> {
-    let mut first: Vec<usize> = roots.iter().copied().collect(alloc)?;
-    if let Some(n) = prelude {
-        first.push(n)?;
-    }
-    Ok(first)
-}
-
-impl<'s, 't> Parser<'s, 't> {
+impl<'s, 't, 'u> Parser<'s, 't, 'u> {
     /// The numbers of the files that a file loads, by this result of parsing its text.
     fn loads_of(&self, n: usize, parsed: Parsed<'_>) -> Result<Vec<usize>, AllocError>
         requires { n < length self.now.files.now }
@@ -55,12 +44,15 @@ impl<'s, 't> Parser<'s, 't> {
         }
     }
 
-    /// Parses the text of a file, unless it is parsed already, and answers the numbers of the files that it loads.
+    /// Parses the text of a file, unless it is read or parsed already, and answers the numbers of the files that it loads.
     fn parse_into(&self, made: &mut Vec<(usize, Parse)>, n: usize) -> Result<Vec<usize>, AllocError>
         ensures { OnOk result (AreMade self.now.files.now made.old.items → AreMade self.now.files.now made.new.items) }
     {
         if n >= self.files.len() {
             return Ok(Vec::new(self.alloc));
+        }
+        if let Some(Some(Read::Program(program))) = self.reads.get(n) {
+            return numbers(self.alloc, program.loads());
         }
         if n < self.parses.len() {
             if let Some(parsed) = self.parses[n] {

@@ -3,10 +3,13 @@
 //! An outcome stays if the labels, the prelude and the steps stay, and the texts of the prelude, of the file itself and
 //! of all files that it needs. These are found along the loads, from the files that load nothing.
 
-ghost use Rattle.std.specs.Prelude.{◌≡◌, ◌<◌, ◌≤◌, ℕ, [], true, IfOk, IfSome, OnOk, Some, length};
+ghost use Rattle.std.specs.Prelude.{◌≡◌, ◌≢◌, ◌<◌, ◌≤◌, ℕ, [], true, IfOk, IfSome, OnOk, Some, length, slice_get, vec_len};
 ghost use Rattle.std.specs.List.{list_all};
 ghost use Rattle.star_label.specs.Files.{IsOrdered, text_at};
-ghost use Rattle.star_memo.specs.Outcomes.{AreMarkedOf, AreOutcomes, AreStaying, HaveLabels, IsStaying, is_marked};
+ghost use Rattle.star_memo.specs.Outcomes.{AreAlike, AreAmong, AreMarkedOf, AreOutcomes, AreStaying, HaveLabels};
+ghost use Rattle.star_memo.specs.Outcomes.{IsStaying, is_marked};
+ghost use Rattle.star_outcome.specs.declared.good_end.GoodEnd.{GoodEnd as EndView};
+ghost use Rattle.star_memo.specs.Readings.{HasPrelude};
 
 use crate::release::free;
 use star_flow::{Flow, Graph};
@@ -32,10 +35,10 @@ pub struct Terms {
 }
 
 /// Whether two rows of files have the same labels.
-fn have_labels(before: &Files, files: &Files) -> bool
+pub(crate) fn have_labels(before: &Files, files: &Files) -> bool
     ensures labels { result ≡ true → HaveLabels before.now files.now }
     ensures ordered { result ≡ true → IsOrdered before.now }
-    ensures same { before.now ≡ files.now → result ≡ true }
+    ensures same { HaveLabels before.now files.now → result ≡ true }
 {
     if before.len() != files.len() {
         return false;
@@ -49,9 +52,10 @@ fn have_labels(before: &Files, files: &Files) -> bool
 }
 
 /// Whether a file has the same text in two rows of files.
-fn has_text(before: &Files, files: &Files, n: usize) -> bool
+pub(crate) fn has_text(before: &Files, files: &Files, n: usize) -> bool
     ensures text { result ≡ true → text_at before.now n ≡ text_at files.now n }
-    ensures same { before.now ≡ files.now → n < length files.now → result ≡ true }
+    ensures same { n < length before.now → n < length files.now → text_at before.now n ≡ text_at files.now n
+        → result ≡ true }
 {
     n < before.len() && n < files.len() && before.text(n) == files.text(n)
 }
@@ -70,9 +74,9 @@ fn have_texts(before: &Files, files: &Files) -> bool
 }
 
 /// Whether the prelude, if there is one, has the same text.
-fn has_prelude(before: &Files, files: &Files, prelude: Option<usize>) -> bool
+pub(crate) fn has_prelude(before: &Files, files: &Files, prelude: Option<usize>) -> bool
     ensures text { result ≡ true → (q : ℕ) → prelude ≡ Some q → text_at before.now q ≡ text_at files.now q }
-    ensures same { before.now ≡ files.now → IfSome prelude (λ q. q < length files.now) → result ≡ true }
+    ensures same { HaveLabels before.now files.now → HasPrelude before.now files.now prelude → result ≡ true }
 {
     match prelude {
         Some(n) => has_text(before, files, n),
@@ -81,7 +85,7 @@ fn has_prelude(before: &Files, files: &Files, prelude: Option<usize>) -> bool
 }
 
 /// Whether a number is marked.
-fn is_marked(marks: &[bool], n: usize) -> bool
+pub(crate) fn is_marked(marks: &[bool], n: usize) -> bool
     ensures { result ≡ is_marked marks.now n }
 {
     n < marks.len() && marks[n]
@@ -100,12 +104,37 @@ fn are_marked(marks: &[bool], numbers: &[usize]) -> bool
 }
 
 /// Adds a file with its loads to a graph. The error: an allocation failed.
-fn add_file(graph: &mut Graph, n: usize, loads: &[usize]) -> Result<(), AllocError> {
+pub(crate) fn add_file(graph: &mut Graph, n: usize, loads: &[usize]) -> Result<(), AllocError> {
     graph.add_file(n)?;
     for m in loads {
         graph.add_load(n, *m)?;
     }
     Ok(())
+}
+
+/// Takes the end at a place out of a row.
+pub(crate) fn take_end(ends: &mut Vec<Option<GoodEnd>>, n: usize) -> Option<GoodEnd>
+    requires { n < vec_len ends.old }
+    ensures sized { vec_len ends.new ≡ vec_len ends.old }
+    ensures taken { IfSome result (λ e. slice_get ends.old.items n ≡ Some (Some e)) }
+    ensures gone { (e : EndView) → slice_get ends.new.items n ≢ Some (Some e) }
+    ensures left { AreAmong ends.old.items ends.new.items }
+{
+    ends[n].take()
+}
+
+/// Takes the end at a place out of a row, unless the place is marked.
+fn take_other(ends: &mut Vec<Option<GoodEnd>>, marks: &[bool], n: usize) -> Option<GoodEnd>
+    requires { n < vec_len ends.old }
+    ensures sized { vec_len ends.new ≡ vec_len ends.old }
+    ensures taken { IfSome result (λ e. slice_get ends.old.items n ≡ Some (Some e)) }
+    ensures marked { (e : EndView) → slice_get ends.new.items n ≡ Some (Some e) → is_marked marks.now n ≡ true }
+    ensures left { AreAmong ends.old.items ends.new.items }
+{
+    if is_marked(marks, n) {
+        return None;
+    }
+    take_end(ends, n)
 }
 
 impl Outcomes {
@@ -189,12 +218,12 @@ impl Outcomes {
     ) -> Result<Vec<Option<GoodEnd>>, AllocError>
         ensures terms { self.new.terms ≡ self.old.terms }
         ensures all { OnOk result (AreMarkedOf marks.now self.old.all.items self.new.all.items) }
+        ensures taken { IfOk result (λ taken. AreAmong self.old.all.items taken.items) }
     {
         let mut taken = Vec::with_capacity(alloc, self.all.len())?;
         for n in 0..self.all.len() {
-            if !is_marked(marks, n) {
-                taken.push(self.all[n].take())?;
-            }
+            let end = take_other(&mut self.all, marks, n);
+            taken.push(end)?;
         }
         Ok(taken)
     }
@@ -216,7 +245,8 @@ impl Outcomes {
     }
 
     /// The outcomes that stay if files take the place of those before, under these terms: all, if these are the same
-    /// files and terms. The others are freed, by up to `threads` threads. The error: an allocation failed.
+    /// files and terms. Also the others, if the labels, the terms and the prelude stay; otherwise these are freed, by up
+    /// to `threads` threads. The error: an allocation failed.
     pub fn after<R: Threads + Wait + Sync>(
         self,
         rt: &R,
@@ -225,25 +255,38 @@ impl Outcomes {
         files: &Files,
         terms: Terms,
         threads: usize,
-    ) -> Result<Outcomes, AllocError>
+    ) -> Result<(Outcomes, Vec<Option<GoodEnd>>), AllocError>
         requires outcomes { AreOutcomes before.now self.terms.prelude self.terms.steps self.all.items }
         requires threads { 1 ≤ threads }
-        ensures terms { IfOk result (λ os. os.terms ≡ terms) }
-        ensures all { IfOk result (λ os. AreOutcomes files.now terms.prelude terms.steps os.all.items) }
+        ensures terms { IfOk result (λ os. os.0.terms ≡ terms) }
+        ensures all { IfOk result (λ os. AreOutcomes files.now terms.prelude terms.steps os.0.all.items) }
+        ensures others { IfOk result (λ os. AreOutcomes before.now terms.prelude terms.steps os.1.items) }
+        ensures alike { IfOk result (λ os. 0 < length os.1.items → AreAlike before.now files.now terms.prelude) }
         ensures same { IfOk result (λ os. before.now ≡ files.now → self.terms ≡ terms
-            → IfSome terms.prelude (λ q. q < length files.now) → os.all ≡ self.all) }
+            → IfSome terms.prelude (λ q. q < length files.now) → os.0.all ≡ self.all) }
     {
         if !self.is_for(before, files, terms) {
             free(rt, alloc, self.all, threads);
-            return Ok(Outcomes::new(alloc, terms));
+            return Ok((Outcomes::new(alloc, terms), Vec::new(alloc)));
         }
         if have_texts(before, files) {
-            return Ok(self);
+            return Ok((self, Vec::new(alloc)));
         }
         let marks = self.staying(rt, alloc, before, files)?;
         let mut outcomes = self;
         let others = outcomes.take_others(alloc, &marks)?;
-        free(rt, alloc, others, threads);
-        Ok(outcomes)
+        Ok((outcomes, others))
     }
+}
+
+/// Frees ends of files, by up to `threads` threads.
+pub fn free_ends<R: Threads + Sync>(
+    rt: &R,
+    alloc: Global,
+    ends: Vec<Option<GoodEnd>>,
+    threads: usize,
+)
+    requires { 1 ≤ threads }
+{
+    free(rt, alloc, ends, threads);
 }

@@ -6,11 +6,12 @@ ghost use Rattle.star_label.specs.Files.{File, label_at, text_at};
 ghost use Rattle.star_memo.specs.Parses.{AreKept, AreMade, AreSharesMade, Has, IsKept, IsParse, IsSameFile, IsTouched, kept_bytes};
 ghost use Rattle.star_reading.specs.Parsed.{AreParsesOf, IsParsed};
 
-use crate::ahead::{Made, Parser, first_files};
+use crate::ahead::{Made, Parser};
 use star_label::files::Files;
 use star_lex::token::SyntaxFault;
 use star_parser::parse;
 use star_reading::parses::Parsed;
+use star_reading::reading::Read;
 use star_tree::tree::Tree;
 use std::alloc::{AllocError, Global};
 use std::sync::{Arc, Wait};
@@ -216,12 +217,13 @@ impl Parses {
 
     /// The results of parsing the texts of the files that some files reach, unless they are kept, by `threads` threads.
     /// The error: an allocation failed.
-    fn reached<R: Threads + Wait + Sync>(
+    fn reached<'s, R: Threads + Wait + Sync>(
         &self,
         rt: &R,
         alloc: Global,
-        files: &Files,
         first: Vec<usize>,
+        files: &'s Files,
+        reads: &'s [Option<Read<'_>>],
         threads: usize,
     ) -> Result<Vec<Made>, AllocError>
         requires { AreKept files.now self.now.all.items }
@@ -231,21 +233,23 @@ impl Parses {
         let parser = Parser {
             alloc,
             files,
+            reads,
             parses: views.as_slice(),
         };
         let search = parser.search(first)?;
         parser.parse_shares(rt, &search, threads)
     }
 
-    /// Parses the texts of the files that roots and a prelude reach, unless their results are kept, by at most `threads`
-    /// threads. If few are not kept, one thread parses all of these. The error: an allocation failed.
+    /// Parses the texts of the files that the files `first` reach, unless their results are kept or they are among
+    /// `reads`, by at most `threads` threads. If few are not kept, one thread parses all of these. The error: an
+    /// allocation failed.
     pub fn parse_reached<R: Threads + Wait + Sync>(
         &mut self,
         rt: &R,
         alloc: Global,
         files: &Files,
-        roots: &[usize],
-        prelude: Option<usize>,
+        reads: &[Option<Read<'_>>],
+        first: Vec<usize>,
         threads: usize,
     ) -> Result<(), AllocError>
         requires { AreKept files.now self.old.all.items }
@@ -259,8 +263,7 @@ impl Parses {
             return self.parse_rest(alloc, files);
         }
         let threads = threads.min(missing / TEXTS_A_THREAD);
-        let first = first_files(alloc, roots, prelude)?;
-        let shares = self.reached(rt, alloc, files, first, threads)?;
+        let shares = self.reached(rt, alloc, first, files, reads, threads)?;
         self.put_shares(alloc, shares)
     }
 
@@ -323,7 +326,7 @@ impl Parses {
     }
 
     /// How many bytes the texts have whose results are kept.
-    fn bytes(&self, files: &Files) -> usize
+    pub(crate) fn bytes(&self, files: &Files) -> usize
         ensures { result ≤ kept_bytes files.now self.now.all.items }
     {
         let mut bytes: usize = 0;

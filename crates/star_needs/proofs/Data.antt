@@ -33,8 +33,8 @@ one_bool false false e = refl
 -- ---- what is the same is one
 
 one_text : (s t : List ℕ) → pointwise nat_eq s t ≡ true → s ≡ t
-one_text [] [] e = refl
 one_text [] (y ∷ t) e = absurd (let no : ⊥ = cc in no)
+one_text [] [] e = refl
 one_text (x ∷ s) [] e = absurd (let no : ⊥ = cc in no)
 one_text (x ∷ s) (y ∷ t) e =
     let h = both (nat_eq x y) (pointwise nat_eq s t) e in

@@ -4,14 +4,16 @@ use Rattle.std.specs.Arc.{arc_value}
 use Rattle.std.specs.Prelude.{All, Any, Contains, MatchOption, slice_get, slice_set}
 use Rattle.std.proofs.lemmas.List.{get_or-map, get_or_default, length-map}
 use Rattle.std.proofs.lemmas.Option.{get_or_from_slice_get, slice_get_within}
-use Rattle.star_plan.specs.Plan.{Plan}
+use Rattle.star_plan.specs.Plan.{Plan, loaded}
 use Rattle.star_plan.specs.Reached.{IsReached}
+use Rattle.star_plan.specs.Shelves.{IsOwn}
 use Rattle.star_plan.proofs.Plans.{one-plan}
 use Rattle.star_plan.proofs.Rows.{get_set_other, get_set_same}
 use Rattle.star_reading.proofs.Finds.{by_cases, same_or_not}
-use Rattle.star_outcome.specs.GoodEnds.{AreEndsAgain, AreEndsAmong, AreEndsInPlans, HaveEnd, IsEndOf, IsGoodEnd, IsPut, KnowsEnd, body_in}
+use Rattle.star_outcome.specs.GoodEnds.{AreEndsAgain, AreEndsAmong, AreEndsInPlans, HaveEnd, IsEndOf, IsGoodEnd, IsLasting, IsPut, KnowsEnd, body_in}
 use Rattle.star_outcome.specs.Kept.{AreModules, KeptView}
-use Rattle.star_outcome.specs.Views.{IsBody, IsEnd, IsModule, ended_well}
+use Rattle.star_outcome.specs.Reaches.{ReachView, row_of}
+use Rattle.star_outcome.specs.Views.{AreStores, IsBody, IsEnd, IsModule, ended_well}
 use Rattle.star_outcome.specs.declared.good_end.GoodEnd.{GoodEnd}
 use Rattle.star_outcome.specs.declared.module.Body.{Body}
 use Rattle.star_outcome.specs.declared.module.Ended.{Ended}
@@ -26,8 +28,36 @@ body_is plan n (Unloaded index line) b e is = absurd (let no : ⊥ = cc in no)
 body_is plan n (Stopped code line lines left) b e is = absurd (let no : ⊥ = cc in no)
 body_is plan n (Good body) b e is = let same : arc_value body ≡ b = cc in subst (IsBody plan n) same is
 
+-- the store of a file among its stores is its own
+own_is : (plan : Plan) (n : ℕ) (rs : List ReachView) → AreStores plan n rs → All (λ (r : ReachView). r.number ≡ n → IsOwn plan n r.store) rs
+own_is plan n rs are i d less number = subst (λ k. IsOwn plan k (get_or rs i d).store) number (are.own i d less).1
+
+-- a body lasts in its own plan
+pub lasting_body : (plan : Plan) (n : ℕ) (b : Body) → IsBody plan n b → IsLasting plan n b
+lasting_body plan n b is = record {
+  shelf = is.shelf;
+  globals = is.globals;
+  outcome = is.outcome;
+  own = own_is plan n (row_of b.stores) is.stores;
+  paid = is.paid;
+}
+
+-- a good end with the body of its file
+pub good_by : (plan : Plan) (n : ℕ) (e : GoodEnd) → e.loads.items ≡ loaded plan n → IsBody plan n (arc_value e.body) → IsGoodEnd plan n e
+good_by plan n e loads body = record { loads = loads; lasting = lasting_body plan n (arc_value e.body) body; stores = λ fresh. body.stores }
+
+-- the body of a good end that is not stale is its file's
+pub fresh_body : (plan : Plan) (n : ℕ) (e : GoodEnd) → IsGoodEnd plan n e → e.is_stale ≡ false → IsBody plan n (arc_value e.body)
+fresh_body plan n e is fresh = record {
+  shelf = is.lasting.shelf;
+  globals = is.lasting.globals;
+  outcome = is.lasting.outcome;
+  stores = is.stores fresh;
+  paid = is.lasting.paid;
+}
+
 end_is_good : (plan : Plan) (n : ℕ) (m : Module) (e : GoodEnd) → IsModule plan n m → IsEndOf m e → IsGoodEnd plan n e
-end_is_good plan n m e is end = record { loads = end.loads ∙ is.loads; body = body_is plan n m.ended (arc_value e.body) end.body is.ended }
+end_is_good plan n m e is end = good_by plan n e (end.loads ∙ is.loads) (body_is plan n m.ended (arc_value e.body) end.body is.ended)
 
 -- ---- a row of ends
 
@@ -88,7 +118,7 @@ number k = k.number
 pub in_plans : (ks : List KeptView) (es : List (Option GoodEnd)) → AreEndsAmong ks es → AreEndsInPlans ks es
 in_plans ks es own plan are n e at = turn (own n e at)
   where
-    turn : Any (KnowsEnd n e) ks → IsReached plan n × IsGoodEnd plan n e
+    turn : Any (KnowsEnd n e) ks → IsReached plan n × IsGoodEnd plan n e × (e.is_stale ≡ false)
     turn (i, k, less, there, (m, known, of_file, end)) =
         let one = subst (λ (x : KeptView). (it : Module) × (x.known ≡ Some it) × IsModule plan x.number it) there (are.each i k less) in
         let both : Some one.0 ≡ Some m = sym one.1 ∙ known in
@@ -98,7 +128,7 @@ in_plans ks es own plan are n e at = turn (own n e at)
         let long = length-map ks number in
         let low : i < length (map number ks) = omega (arith, less, long) in
         let among : Contains (map number ks) n = (i, low, get_or-map number ks i k n less ∙ (ap number there ∙ file)) in
-        ((are.reached n).1 among, end_is_good plan n m e (subst (λ x. IsModule plan x m) file is) end)
+        ((are.reached n).1 among, end_is_good plan n m e (subst (λ x. IsModule plan x m) file is) end, end.fresh)
 
 pub ends_again : (ks : List KeptView) (es : List (Option GoodEnd)) → AreEndsAmong ks es → AreEndsAgain ks es
 ends_again ks es own files roots prelude steps ordered of_files plan planned of_roots of_prelude of_steps n e at reached =

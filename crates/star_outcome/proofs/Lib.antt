@@ -1,7 +1,9 @@
 pub mod KeptNotes
 pub mod Opens
 pub mod Stores
+pub mod Seats
 pub mod RefusedLoads
+pub mod Bits
 pub mod Blocks
 pub mod Lent
 pub mod GoodEnds

@@ -1,31 +1,54 @@
 -- The ends of files whose runs went well, as a caller may keep them after a run.
 use Rattle.std.specs.Arc.{arc_value}
-use Rattle.std.specs.Prelude.{◌≡◌, ◌⊎◌, ℕ, true, false, List, Option, Some, None, Any, slice_get, slice_set}
+use Rattle.std.specs.Prelude.{◌≡◌, ◌⊎◌, ℕ, true, false, All, Contains, List, Option, Some, None, Any, slice_get, slice_set}
 use Rattle.star_label.specs.Files.{File, IsOrdered}
 use Rattle.star_plan.specs.Plan.{Plan, loaded}
 use Rattle.star_plan.specs.Reached.{IsReached}
 use Rattle.star_plan.specs.Reading.{IsPlanOf}
 use Rattle.star_outcome.specs.Kept.{AreModules, AreModulesOf, KeptView}
-use Rattle.star_outcome.specs.Views.{IsBody, ended_well}
+use Rattle.star_meaning.specs.Module.{Good as WentWell}
+use Rattle.star_plan.specs.Results.{IsOutcome, Ran}
+use Rattle.star_plan.specs.Shelves.{IsOwn}
+use Rattle.star_store.specs.declared.values.Value.{Value}
+use Rattle.star_store.specs.Store.{Published, Shelf}
+use Rattle.star_outcome.specs.Paid.{HasPaid}
+use Rattle.star_outcome.specs.Reaches.{ReachView, row_of}
+use Rattle.star_outcome.specs.Views.{AreStores, ended_well, shown_texts}
 use Rattle.star_outcome.specs.declared.good_end.GoodEnd.{GoodEnd}
 use Rattle.star_outcome.specs.declared.module.Body.{Body}
 use Rattle.star_outcome.specs.declared.module.Ended.{Ended}
 use Rattle.star_outcome.specs.declared.module.Ended.TheVariants.{Static, Load as Unloaded, Stopped, Good}
 use Rattle.star_outcome.specs.declared.module.Module.{Module}
 
--- the good end of the file n: the files that it loads, and its body
+-- a body of the file n but for the stores of other files: the texts of its globals, its lines and the steps that it has
+-- paid, and its own store
+pub record IsLasting (plan : Plan) (n : ℕ) (b : Body) : Type 0 where
+  pub shelf : Shelf
+  pub globals : List (List ℕ × Value)
+  pub outcome : IsOutcome plan n (Ran (WentWell shelf globals (shown_texts b.shown.items) b.lines.items))
+  pub own : All (λ r. r.number ≡ n → IsOwn plan n r.store) (row_of b.stores)
+  pub paid : HasPaid plan n b.paid
+
+-- the good end of the file n: the files that it loads, and its body. A stale one may have stores of files that have
+-- changed
 pub record IsGoodEnd (plan : Plan) (n : ℕ) (e : GoodEnd) : Type 0 where
   pub loads : e.loads.items ≡ loaded plan n
-  pub body : IsBody plan n (arc_value e.body)
+  pub lasting : IsLasting plan n (arc_value e.body)
+  pub stores : e.is_stale ≡ false → AreStores plan n (row_of (arc_value e.body).stores)
+
+-- a row has this store of the file n
+abbrev pub HasStoreOf : List ReachView → ℕ → Published → Type 0
+HasStoreOf rs n store = Contains rs (record { number = n; store = store })
 
 -- each of these, at the number of its file, is the good end of the file, if that is reached
 abbrev pub AreGoodEnds : Plan → List (Option GoodEnd) → Type 0
 AreGoodEnds plan es = (n : ℕ) (e : GoodEnd) → slice_get es n ≡ Some (Some e) → IsReached plan n → IsGoodEnd plan n e
 
--- each of these, at the number of its file, is the good end of a reached file
+-- each of these, at the number of its file, is the good end of a reached file, and not stale
 abbrev pub AreReachedEnds : Plan → List (Option GoodEnd) → Type 0
 AreReachedEnds plan es =
-    (n : ℕ) (e : GoodEnd) → slice_get es n ≡ Some (Some e) → IsReached plan n × IsGoodEnd plan n e
+    (n : ℕ) (e : GoodEnd) → slice_get es n ≡ Some (Some e)
+    → IsReached plan n × IsGoodEnd plan n e × (e.is_stale ≡ false)
 
 -- they are good ends in the plan with these files, roots, prelude and steps
 abbrev pub AreGoodEndsOf : List File → List ℕ → Option ℕ → ℕ → List (Option GoodEnd) → Type 0
@@ -44,6 +67,7 @@ body_in (Good body) = Some (arc_value body)
 pub record IsEndOf (m : Module) (e : GoodEnd) : Type 0 where
   pub loads : e.loads.items ≡ m.loads.items
   pub body : body_in m.ended ≡ Some (arc_value e.body)
+  pub fresh : e.is_stale ≡ false
 
 -- the end of the module is put at its number, if its run went well
 abbrev pub IsPut : Module → List (Option GoodEnd) → List (Option GoodEnd) → Type 0

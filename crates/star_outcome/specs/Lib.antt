@@ -1,6 +1,7 @@
 -- Words of the contracts of results: modules, the products of files, and the run as a whole.
 pub mod Fits
 pub mod Reaches
+pub mod Numbers
 pub mod Paid
 pub mod Views
 pub mod Gathered

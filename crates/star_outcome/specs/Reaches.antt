@@ -2,7 +2,6 @@
 use Rattle.std.specs.Prelude.{ℕ, List, [], ◌∷◌, ◌++◌}
 use Rattle.std.specs.Arc.{arc_value}
 use Rattle.std.specs.declared.sync.Arc.{Arc}
-use Rattle.std.specs.declared.vec.Vec.{Vec}
 use Rattle.star_store.specs.Store.{Published}
 
 -- the store of a file
@@ -20,6 +19,6 @@ abbrev pub row_of : StoreRowView → List ReachView
 row_of s = s.base ++ s.more
 
 -- the stores in these blocks
-abbrev pub shared_of : {Y Z : Type 0} → List (Arc (Vec ReachView Y) Z) → List ReachView
+abbrev pub shared_of : {Z : Type 0} → List (Arc (List ReachView) Z) → List ReachView
 shared_of [] = []
-shared_of (block ∷ blocks) = (arc_value block).items ++ shared_of blocks
+shared_of (block ∷ blocks) = arc_value block ++ shared_of blocks

@@ -14,11 +14,17 @@ use std::sync::Arc;
 pub struct GoodEnd {
     pub loads: Vec<usize>,
     pub body: Arc<Body>,
+    /// Whether the stores of other files in the body may be those of files that have changed since.
+    pub is_stale: bool,
 }
 
 impl Drop for GoodEnd {
     fn drop(self) {
-        let GoodEnd { loads: _, body: _ } = self;
+        let GoodEnd {
+            loads: _,
+            body: _,
+            is_stale: _,
+        } = self;
     }
 }
 
@@ -32,7 +38,11 @@ impl Module {
         };
         let body = Arc::try_clone(body)?;
         let loads = Vec::from_slice(alloc, self.loads.as_slice())?;
-        Ok(Some(GoodEnd { loads, body }))
+        Ok(Some(GoodEnd {
+            loads,
+            body,
+            is_stale: false,
+        }))
     }
 }
 

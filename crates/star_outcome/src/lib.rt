@@ -11,6 +11,7 @@
 //!   `ReachableStores` and `StoreRow` collect the stores that its body may read.
 //! - `Trace` has the refused loads. Each is on a cycle. `Run` is the result of a run: the modules of all reached files,
 //!   by number. `GoodEnd` is the end of a file whose run went well. A caller may keep it, and give it to a later run.
+//!   If files that it needs have changed since, it is stale: `lasting` puts its body over the stores that they have now.
 //! - `RunId`, called `J` in signatures, is the identity of one run: its files, their plan, its shelf. Only contracts
 //!   see it. It keeps the notes of two runs apart.
 //!
@@ -20,7 +21,9 @@
 
 pub mod good_end;
 pub mod homes;
+mod lasting;
 pub mod module;
+mod numbers;
 pub mod open_file;
 pub mod outcome;
 pub mod reachable;

@@ -1,5 +1,6 @@
 pub mod Rows
 pub mod PlacesRead
+pub mod Known
 pub mod LoadsWithin
 pub mod Finds
 pub mod Crossing

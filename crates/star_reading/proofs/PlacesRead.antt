@@ -13,22 +13,26 @@ use Rattle.star_reading.specs.declared.reading.Read.{Read}
 use Rattle.star_reading.specs.declared.reading.Read.TheVariants as read
 use Rattle.star_reading.specs.Readings.{AreReadAs, IsPlaceOf, IsReadAs, Row, read_at}
 
--- one more file is read
-pub set_read : (files : List File) (prelude : Option Prelude) (row : Row) (k : ℕ) (r : Read) → k < length row → IsReadAs files prelude k r → AreReadAs files prelude row → AreReadAs files prelude (slice_set row k (Some r))
-set_read files prelude row k r inside is all n d h = by_order (cases_order n k)
+-- an entry is put in its place
+pub set_place : (files : List File) (prelude : Option Prelude) (row : Row) (k : ℕ) (o : Option Read) → k < length row → IsPlaceOf files prelude k o → AreReadAs files prelude row → AreReadAs files prelude (slice_set row k o)
+set_place files prelude row k o inside is all n d h = by_order (cases_order n k)
   where
     short : n < length row
-    short = let e = length-set row k (Some r) in omega (arith, e, h)
+    short = let e = length-set row k o in omega (arith, e, h)
 
-    other : n ≢ k → IsPlaceOf files prelude n (get_or (slice_set row k (Some r)) n d)
-    other ne = subst (IsPlaceOf files prelude n) (sym (get_or-set_other row k n (Some r) d ne)) (all n d short)
+    other : n ≢ k → IsPlaceOf files prelude n (get_or (slice_set row k o) n d)
+    other ne = subst (IsPlaceOf files prelude n) (sym (get_or-set_other row k n o d ne)) (all n d short)
 
-    by_order : ((n ≡ k) ⊎ ((n < k) ⊎ (k < n))) → IsPlaceOf files prelude n (get_or (slice_set row k (Some r)) n d)
+    by_order : ((n ≡ k) ⊎ ((n < k) ⊎ (k < n))) → IsPlaceOf files prelude n (get_or (slice_set row k o) n d)
     by_order (inl same) =
-        let here : IsPlaceOf files prelude k (get_or (slice_set row k (Some r)) k d) = subst (IsPlaceOf files prelude k) (sym (get_or-set_same row k (Some r) d inside)) is in
-        subst (λ i. IsPlaceOf files prelude i (get_or (slice_set row k (Some r)) i d)) (sym same) here
+        let here : IsPlaceOf files prelude k (get_or (slice_set row k o) k d) = subst (IsPlaceOf files prelude k) (sym (get_or-set_same row k o d inside)) is in
+        subst (λ i. IsPlaceOf files prelude i (get_or (slice_set row k o) i d)) (sym same) here
     by_order (inr (inl less)) = other (omega arith)
     by_order (inr (inr less)) = other (omega arith)
+
+-- one more file is read
+pub set_read : (files : List File) (prelude : Option Prelude) (row : Row) (k : ℕ) (r : Read) → k < length row → IsReadAs files prelude k r → AreReadAs files prelude row → AreReadAs files prelude (slice_set row k (Some r))
+set_read files prelude row k r inside is all = set_place files prelude row k (Some r) inside is all
 
 -- nothing is read
 pub none_read : (files : List File) (prelude : Option Prelude) (row : Row) → All (λ o. o ≡ None) row → AreReadAs files prelude row

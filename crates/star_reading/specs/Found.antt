@@ -80,6 +80,10 @@ pub record IsRowOf (files : List File) (prelude : Option Prelude) (roots : List 
   pub closed : IsClosed row roots
   pub reached : (n : ℕ) → IsSome (read_at row n) → IsReachedBy roots row n
 
+-- whatever is there for a file, by its number, is its reading: the prelude is this file
+abbrev pub AreKnown : List File → Option ℕ → Row → Type 0
+AreKnown files prelude row = (block : Option Prelude) → IsPrelude files prelude block → AreReadAs files block row
+
 -- the row is right for the files that see this prelude, and for the prelude itself
 abbrev pub IsReadOf : List File → List ℕ → Option ℕ → Row → Type 0
 IsReadOf files roots prelude row =

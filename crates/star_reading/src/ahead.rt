@@ -1,4 +1,5 @@
-//! Reading in parallel: several threads read files as they are found, and some before that, when they would sleep.
+//! The readings that are there before the files are gone over: those that are known, or else those that several threads
+//! read. They read files as they are found, and some before that, when they would sleep.
 
 ghost use Rattle.std.specs.Prelude.{◌<◌, IfOk, OnOk, length};
 ghost use Rattle.std.specs.Option.{option_copied};
@@ -105,7 +106,7 @@ impl<'s, 't> Reader<'s, 't> {
     }
 
     /// Reads all files that the roots reach by at most `threads` threads. One thread reads nothing ahead.
-    pub(crate) fn read_ahead<R: Threads + Wait + Sync>(
+    fn read_ahead<R: Threads + Wait + Sync>(
         &self,
         rt: &R,
         threads: usize,
@@ -127,7 +128,29 @@ impl<'s, 't> Reader<'s, 't> {
         Ok(ahead)
     }
 
-    /// The result of reading a file: the one that was read ahead, or the file is read now.
+    /// The readings to begin with: those that are known, if there are any; else files are read ahead.
+    pub(crate) fn read_before<R: Threads + Wait + Sync>(
+        &self,
+        rt: &R,
+        known: Vec<Option<Read<'t>>>,
+        threads: usize,
+    ) -> Result<Found<'t>, AllocError>
+        requires parses { AreParsesOf self.now.files.now self.now.parses.now }
+        requires known { AreReadAs self.now.files.now (option_copied self.now.prelude) known.items }
+        ensures { IfOk result (λ ahead.
+            AreReadAs self.now.files.now (option_copied self.now.prelude) ahead.reads.items) }
+    {
+        if known.iter().all(|read| read.is_none()) {
+            return self.read_ahead(rt, threads);
+        }
+        Ok(Found {
+            reads: known,
+            marks: Vec::new(self.alloc),
+            todo: Vec::new(self.alloc),
+        })
+    }
+
+    /// The result of reading a file: the one that is there before, or the file is read now.
     pub(crate) fn read_once<R: Wait>(
         &self,
         rt: &R,

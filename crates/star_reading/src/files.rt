@@ -4,9 +4,9 @@ ghost use Rattle.std.specs.Prelude.{◌≡◌, ◌<◌, All, IfOk, IfSome, Some,
 ghost use Rattle.std.specs.Option.{option_copied, option_map};
 ghost use Rattle.star_scope.specs.Resolve.{prelude_names};
 ghost use Rattle.star_plan.specs.Reading.{IsPrelude};
-ghost use Rattle.star_reading.specs.Found.{IsReadOf, IsRowOf, Within};
+ghost use Rattle.star_reading.specs.Found.{AreKnown, IsReadOf, IsRowOf, Within};
 ghost use Rattle.star_reading.specs.Parsed.{AreParsesOf};
-ghost use Rattle.star_reading.specs.Readings.{IsPlaceable};
+ghost use Rattle.star_reading.specs.Readings.{AreReadAs, IsPlaceable};
 
 use crate::parses::{Parsed, parsed_once};
 use crate::reading::{Read, Reader, Reads, Trees};
@@ -81,19 +81,24 @@ fn block_of<'t, R: Wait>(
     }
 }
 
-/// Reads the files by this prelude.
+/// Reads the files by this prelude, but for those whose readings are known.
 fn read_by<'s, 't, R: Threads + Wait + Sync>(
     rt: &R,
     alloc: Global,
     texts: Texts<'s, 't>,
+    known: Reads<'t>,
     prelude: Option<&'s Prelude<'t>>,
     roots: &'s [usize],
     threads: usize,
-) -> Result<Vec<Option<Read<'t>>>, AllocError>
+) -> Result<Reads<'t>, AllocError>
     requires parses { AreParsesOf texts.files.now texts.parses.now }
+    requires known { AreReadAs texts.files.now (option_copied prelude) known.all.items }
     requires roots { Within texts.files.now roots.now }
     requires prelude { IfSome prelude (λ p. p.now.file < length texts.files.now) }
-    ensures { IfOk result (λ row. IsRowOf texts.entry.files.now (option_copied prelude.entry) roots.now row.items) }
+    ensures all { IfOk result (λ reads.
+        IsRowOf texts.entry.files.now (option_copied prelude.entry) roots.now reads.all.items) }
+    ensures others { IfOk result (λ reads.
+        AreReadAs texts.entry.files.now (option_copied prelude.entry) reads.others.items) }
 {
     let reader = Reader {
         alloc,
@@ -103,7 +108,8 @@ fn read_by<'s, 't, R: Threads + Wait + Sync>(
         prelude,
         roots,
     };
-    reader.read_all(rt, threads)
+    let Reads { all, .. } = known;
+    reader.read_all(rt, all, threads)
 }
 
 /// Reads all files that the roots reach, by at most `threads` threads: of each its program, or its static fault. The
@@ -128,25 +134,30 @@ pub fn read_files<'t, R: Threads + Wait + Sync>(
         trees,
         parses: none.as_slice(),
     };
-    read_parsed(rt, alloc, texts, roots, prelude, threads)
+    let known = Reads::new(alloc);
+    read_parsed(rt, alloc, texts, known, roots, prelude, threads)
 }
 
-/// As `read_files`, with some texts parsed already: these are not parsed again. The error: an allocation failed.
+/// As `read_files`, with some texts parsed already, which are not parsed again, and some files read already, which are
+/// not read again. The results of reading those that are not reached are the others of the answer. The error: an
+/// allocation failed.
 pub fn read_parsed<'t, R: Threads + Wait + Sync>(
     rt: &R,
     alloc: Global,
     texts: Texts<'_, 't>,
+    known: Reads<'t>,
     roots: &[usize],
     prelude: Option<usize>,
     threads: usize,
 ) -> Result<Reads<'t>, AllocError>
     requires parses { AreParsesOf texts.files.now texts.parses.now }
+    requires known { AreKnown texts.files.now prelude known.all.items }
     requires roots { Within texts.files.now roots.now }
     requires prelude { IfSome prelude (λ n. n < length texts.files.now) }
     ensures read { IfOk result (λ reads. IsReadOf texts.entry.files.now roots.now prelude reads.all.items) }
     ensures placeable { IfOk result (λ reads. All IsPlaceable reads.all.items) }
+    ensures others { IfOk result (λ reads. AreKnown texts.entry.files.now prelude reads.others.items) }
 {
     let block = block_of(rt, alloc, texts, prelude)?;
-    let all = read_by(rt, alloc, texts, block.as_ref(), roots, threads)?;
-    Ok(Reads { all })
+    read_by(rt, alloc, texts, known, block.as_ref(), roots, threads)
 }

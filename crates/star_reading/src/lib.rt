@@ -5,6 +5,7 @@
 //! - `Trees` owns the trees. Programs borrow them, so whoever keeps `Reads` keeps the trees too.
 //! - `ahead` lets several threads read files as they are found. `reading` then goes over the reached files in one
 //!   thread, takes the files that were read ahead and reads the others. So the result is the same as with one thread.
+//!   A caller who has read some of the files before gives these readings, and none is read ahead.
 //! - `parses` parses a text once, if several need its tree. `roots` marks the files that are roots.
 //!
 //! Begin at `files.rt::read_files`. The promise is its clause `read`: the result has exactly the files that the roots

@@ -1,13 +1,14 @@
 //! The reading of all files that roots reach, before any body runs.
 
-ghost use Rattle.std.specs.Prelude.{◌≡◌, ◌<◌, ◌∷◌, ◌++◌, None, Option, Some, Ok, [], All, IfOk, IfSome, IsTrue, IsFalse};
+ghost use Rattle.std.specs.Prelude.{◌≡◌, ◌<◌, ◌∷◌, ◌++◌, ℕ, List, None, Option, Some, Ok, [], All, IfOk, IfSome, IsTrue, IsFalse};
 ghost use Rattle.std.specs.Prelude.{IsSome, MatchOption, OnOk, false, length, map, replicate};
-ghost use Rattle.std.specs.Prelude.{slice_set, vec_len};
+ghost use Rattle.std.specs.Prelude.{slice_set, vec_len, ⊤};
 ghost use Rattle.std.specs.Option.{option_copied};
-ghost use Rattle.star_label.specs.Files.{text_at};
+ghost use Rattle.star_label.specs.Files.{File, text_at};
 ghost use Rattle.star_parser.specs.Sources.{Parses};
 ghost use Rattle.star_scope.specs.declared.program.Prelude.{Prelude as PreludeView};
-ghost use Rattle.star_reading.specs.Found.{Grew, HasFound, HasFoundWith, IsMarked, IsRowOf, Within, left_of};
+ghost use Rattle.star_reading.specs.Ahead.{StaysRight};
+ghost use Rattle.star_reading.specs.Found.{AreKnown, Grew, HasFound, HasFoundWith, IsMarked, IsRowOf, Within, left_of};
 ghost use Rattle.star_reading.specs.Parsed.{AreParsesOf};
 ghost use Rattle.star_reading.specs.Readings.{AreReadAs, IsReadAs, loads_at, loads_read, read_at};
 
@@ -57,6 +58,8 @@ impl Trees {
 pub struct Reads<'t> {
     /// An entry for each file of the run.
     pub all: Vec<Option<Read<'t>>>,
+    /// The results of reading other files that were known before.
+    pub others: Vec<Option<Read<'t>>>,
 }
 
 impl<'t> Reads<'t> {
@@ -66,6 +69,30 @@ impl<'t> Reads<'t> {
     {
         Reads {
             all: Vec::new(alloc),
+            others: Vec::new(alloc),
+        }
+    }
+
+    /// Takes the result of reading another file in, if none is there at its place.
+    fn take_other(&mut self, n: usize)
+        ensures all { StaysRight (λ files prelude. AreReadAs files prelude self.old.others.items)
+            self.old.all.items self.new.all.items }
+        ensures others { StaysRight (λ _ _. ⊤) self.old.others.items self.new.others.items }
+        ensures size { vec_len self.new.others ≡ vec_len self.old.others }
+    {
+        if n >= self.all.len() || n >= self.others.len() || self.all[n].is_some() {
+            return;
+        }
+        self.all[n] = self.others[n].take();
+    }
+
+    /// Takes the results of reading other files in, each at its place if none is there.
+    pub fn take_others(&mut self)
+        ensures { (files : List File) (prelude : Option ℕ) → AreKnown files prelude self.old.all.items
+            → AreKnown files prelude self.old.others.items → AreKnown files prelude self.new.all.items }
+    {
+        for n in 0..self.others.len() {
+            self.take_other(n);
         }
     }
 
@@ -167,25 +194,31 @@ impl<'s, 't> Reader<'s, 't> {
 
     /// Reads all files that the roots reach, by `threads` threads: the roots, and the loads of all that is read. A file
     /// with a static fault has no loads. Each turn takes a file that was found, and each file is found at most once.
-    /// The error: an allocation failed.
+    /// The readings in `known`, by the numbers of their files, are taken as they are; those of files that are not
+    /// reached are the others of the answer. The error: an allocation failed.
     pub fn read_all<R: Threads + Wait + Sync>(
         &self,
         rt: &R,
+        known: Vec<Option<Read<'t>>>,
         threads: usize,
-    ) -> Result<Vec<Option<Read<'t>>>, AllocError>
+    ) -> Result<Reads<'t>, AllocError>
         requires parses { AreParsesOf self.now.files.now self.now.parses.now }
         requires roots { Within self.now.files.now self.now.roots.now }
         requires prelude { IfSome self.now.prelude (λ p. p.now.file < length self.now.files.now) }
-        ensures { IfOk result (λ row. IsRowOf self.now.files.now (option_copied self.now.prelude)
-            self.now.roots.now row.items) }
+        requires known { AreReadAs self.now.files.now (option_copied self.now.prelude) known.items }
+        ensures all { IfOk result (λ reads. IsRowOf self.now.files.now (option_copied self.now.prelude)
+            self.now.roots.now reads.all.items) }
+        ensures others { IfOk result (λ reads.
+            AreReadAs self.now.files.now (option_copied self.now.prelude) reads.others.items) }
     {
-        let mut ahead = self.read_ahead(rt, threads)?;
+        let mut ahead = self.read_before(rt, known, threads)?;
         let mut found = Found::from_roots(self.alloc, self.files, self.roots)?;
         while let Some(n) = found.next() {
             self.read_next(rt, &mut found, &mut ahead, n)?;
         }
-        let Found { reads, .. } = found;
-        Ok(reads)
+        let Found { reads: all, .. } = found;
+        let Found { reads: others, .. } = ahead;
+        Ok(Reads { all, others })
     }
 }
 

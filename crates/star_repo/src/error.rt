@@ -19,6 +19,17 @@ pub enum ReadError {
     Memory,
 }
 
+/// Why there is no report of the files that roots reach in a folder.
+#[derive(Debug, Drop, Error)]
+pub enum RepoError {
+    /// The file of a label is refused: `BadFile`, `TooMany`, `TooLong`, `NotText` or `TooBig`.
+    #[error("{error}: {label}")]
+    File { label: Label, error: ServeError },
+    /// Anything else.
+    #[error("{error}")]
+    Run { error: ServeError },
+}
+
 impl From<AllocError> for ReadError {
     ghost from_gives = { λ _ e. e ≡ Memory };
 
@@ -33,15 +44,4 @@ impl<T: Drop> From<AllocFailed<T>> for ReadError {
     fn from(_error: AllocFailed<T>) -> ReadError {
         ReadError::Memory
     }
-}
-
-/// Why there is no report of the files that roots reach in a folder.
-#[derive(Debug, Drop, Error)]
-pub enum RepoError {
-    /// The file of a label is refused: `BadFile`, `TooMany`, `TooLong`, `NotText` or `TooBig`.
-    #[error("{error}: {label}")]
-    File { label: Label, error: ServeError },
-    /// Anything else.
-    #[error("{error}")]
-    Run { error: ServeError },
 }

@@ -5,11 +5,11 @@ ghost use Rattle.std.specs.Option.{option_copied};
 ghost use Rattle.std.specs.Prelude.{Option};
 ghost use Rattle.serde_json.specs.Data.{Data, no_members, string};
 ghost use Rattle.serde_json.specs.View.{view};
+ghost use Rattle.star_report.specs.Shelf.{among_data, name_if, names_in, names_of, opaque_name, own_data, stored_data};
 ghost use Rattle.star_store.specs.Store.{look};
 ghost use Rattle.star_data.specs.Data.{data_of};
 ghost use Rattle.star_meaning.specs.Module.{most_levels};
 ghost use Rattle.star_scope.specs.Loads.{is_private};
-ghost use Rattle.star_report.specs.Shelf.{among_data, name_if, names_in, names_of, opaque_name, own_data, stored_data};
 ghost use Rattle.star_report.specs.Texts.{AddsNames, AddsText, AreTexts, IsTextFor, PutsText};
 ghost use Rattle.star_report.specs.Values.{opaque_names, shown_values};
 

@@ -6,6 +6,7 @@ ghost use Rattle.star_bundle.specs.Refusal.{reads_failed, writes_failed};
 ghost use Rattle.star_outcome.specs.GoodEnds.{AreGoodEndsOf, AreReachedEnds};
 ghost use Rattle.star_outcome.specs.Kept.{AreModulesOf};
 ghost use Rattle.star_outcome.specs.Refusals.{AreRefusalsOf};
+ghost use Rattle.star_reading.specs.Found.{AreKnown, IsReadOf};
 ghost use Rattle.star_reading.specs.Parsed.{AreParsesOf};
 ghost use Rattle.star_report.specs.Output.{InPlanOf};
 ghost use Rattle.star_report.specs.declared.wanted.Output.TheVariants as output;
@@ -80,7 +81,8 @@ struct Answer {
     written: Written,
 }
 
-/// Reads the files that the input reaches, runs none, and returns the check of them.
+/// Reads the files that the input reaches, runs none, and returns the check of them. The files whose readings are in
+/// `reads` are not read again; after it `reads` has the readings of the files that are reached.
 fn checked<'t, H: Threads + Wait + Sync>(
     rt: &H,
     alloc: Global,
@@ -90,10 +92,14 @@ fn checked<'t, H: Threads + Wait + Sync>(
     threads: usize,
 ) -> Result<Checked, AllocError>
     requires parses { AreParsesOf job.now.asked.now.files job.now.parses.now }
+    requires reads { AreKnown job.now.asked.now.files job.now.asked.now.prelude reads.old.all.items }
     requires roots { All (λ n. n < length job.now.asked.now.files) job.now.asked.now.roots.items }
     requires prelude { IfSome job.now.asked.now.prelude (λ n. n < length job.now.asked.now.files) }
-    ensures { IfOk result (λ c. (steps : ℕ)
+    ensures text { IfOk result (λ c. (steps : ℕ)
         → IsOutputFor (output.Check only_roots) (asked_in job.now) steps c.text.items c.all_ok) }
+    ensures read { let a = job.now.asked.now in IfOk result (λ _.
+        IsReadOf a.files a.roots.items a.prelude reads.new.all.items) }
+    ensures others { let a = job.now.asked.now in IfOk result (λ _. AreKnown a.files a.prelude reads.new.others.items) }
 {
     let files = &job.asked.files;
     let roots = job.asked.roots.as_slice();
@@ -102,13 +108,15 @@ fn checked<'t, H: Threads + Wait + Sync>(
         trees: job.trees,
         parses: job.parses,
     };
-    let read = read_parsed(rt, alloc, texts, roots, job.asked.prelude, threads)?;
+    let before = mem::replace(reads, Reads::new(alloc));
+    let read = read_parsed(rt, alloc, texts, before, roots, job.asked.prelude, threads)?;
     let it = check(alloc, files, &read, roots, only_roots)?;
     *reads = read;
     Ok(it)
 }
 
-/// Runs the roots that are asked for. `Memory`, or `Unpublished` where a module was not published.
+/// Runs the roots that are asked for. The files whose readings are in `reads` are not read again; after it `reads` has
+/// the readings of the files that are reached. `Memory`, or `Unpublished` where a module was not published.
 fn answered<'t, H: Threads + Wait + Sync>(
     rt: &H,
     alloc: Global,
@@ -118,6 +126,7 @@ fn answered<'t, H: Threads + Wait + Sync>(
     options: &Options,
 ) -> Result<Answer, ServeError>
     requires parses { AreParsesOf job.now.asked.now.files job.now.parses.now }
+    requires reads { AreKnown job.now.asked.now.files job.now.asked.now.prelude reads.old.all.items }
     requires ends { let a = job.now.asked.now in
         AreGoodEndsOf a.files a.roots.items a.prelude options.now.steps ends.now }
     requires roots { All (λ n. n < length job.now.asked.now.files) job.now.asked.now.roots.items }
@@ -134,6 +143,9 @@ fn answered<'t, H: Threads + Wait + Sync>(
     ensures cells { IfOk result (λ a. length a.run.cells ≡ length job.now.asked.now.files) }
     ensures modules { let a = job.now.asked.now in IfOk result (λ answer.
         AreModulesOf a.files a.roots.items a.prelude options.now.steps answer.run.kept) }
+    ensures read { let a = job.now.asked.now in IfOk result (λ _.
+        IsReadOf a.files a.roots.items a.prelude reads.new.all.items) }
+    ensures others { let a = job.now.asked.now in IfOk result (λ _. AreKnown a.files a.prelude reads.new.others.items) }
 {
     let asked = job.asked;
     let files = &asked.files;
@@ -174,18 +186,22 @@ fn check_over<'t, H: Threads + Wait + Sync>(
     rt: &H,
     alloc: Global,
     job: &Job<'_, 't>,
+    reads: &mut Reads<'t>,
     options: &Options,
     only_roots: bool,
 ) -> Result<Written, ServeError>
     requires parses { AreParsesOf job.now.asked.now.files job.now.parses.now }
+    requires reads { AreKnown job.now.asked.now.files job.now.asked.now.prelude reads.old.all.items }
     requires roots { All (λ n. n < length job.now.asked.now.files) job.now.asked.now.roots.items }
     requires prelude { IfSome job.now.asked.now.prelude (λ n. n < length job.now.asked.now.files) }
     ensures kinds { IfErr result (λ e. (e ≡ ServeError.Memory) ⊎ (e ≡ ServeError.Unpublished)) }
     ensures text { IfOk result (λ w.
         IsOutputFor (output.Check only_roots) (asked_in job.now) options.now.steps w.text.items w.all_ok) }
+    ensures read { let a = job.now.asked.now in IfOk result (λ _.
+        IsReadOf a.files a.roots.items a.prelude reads.new.all.items) }
+    ensures others { let a = job.now.asked.now in IfOk result (λ _. AreKnown a.files a.prelude reads.new.others.items) }
 {
-    let mut reads = Reads::new(alloc);
-    match checked(rt, alloc, job, &mut reads, only_roots, options.loaders) {
+    match checked(rt, alloc, job, reads, only_roots, options.loaders) {
         Ok(it) => {
             let Checked { text, all_ok, .. } = it;
             let said = String::new(alloc);
@@ -216,15 +232,19 @@ fn read_numbers(alloc: Global, reads: &Reads) -> Result<Vec<usize>, AllocError> 
 }
 
 /// Runs the roots that are asked for, frees the run, and returns its output, with its good ends. For a check nothing is
-/// run. A file whose good end is among `ends` is not run. `Memory`, or `Unpublished` where a module was not published.
+/// run. A file whose good end is among `ends` is not run, and one whose reading is in `reads` is not read again; after
+/// it `reads` has the readings of the files that are reached. `Memory`, or `Unpublished` where a module was not
+/// published.
 pub fn written_over<'t, H: Threads + Wait + Sync>(
     rt: &H,
     alloc: Global,
     job: &Job<'_, 't>,
     ends: &[Option<GoodEnd>],
+    reads: &mut Reads<'t>,
     options: &Options,
 ) -> Result<Finished, ServeError>
     requires parses { AreParsesOf job.now.asked.now.files job.now.parses.now }
+    requires reads { AreKnown job.now.asked.now.files job.now.asked.now.prelude reads.old.all.items }
     requires ends { let a = job.now.asked.now in
         AreGoodEndsOf a.files a.roots.items a.prelude options.now.steps ends.now }
     requires roots { All (λ n. n < length job.now.asked.now.files) job.now.asked.now.roots.items }
@@ -236,23 +256,25 @@ pub fn written_over<'t, H: Threads + Wait + Sync>(
         IsOutputFor o.output (asked_in job.now) o.steps f.written.text.items f.written.all_ok) }
     ensures ends { let a = job.now.asked.now in IfOk result (λ f.
         InPlanOf a.files a.roots.items a.prelude options.now.steps (λ p. AreReachedEnds p f.ends.items)) }
+    ensures read { let a = job.now.asked.now in IfOk result (λ _.
+        IsReadOf a.files a.roots.items a.prelude reads.new.all.items) }
+    ensures others { let a = job.now.asked.now in IfOk result (λ _. AreKnown a.files a.prelude reads.new.others.items) }
 {
     if let Output::Check { only_roots } = options.output {
-        let written = check_over(rt, alloc, job, options, only_roots)?;
+        let written = check_over(rt, alloc, job, reads, options, only_roots)?;
         return Ok(Finished {
             written,
             ends: Vec::new(alloc),
             reached: Vec::new(alloc),
         });
     }
-    let mut reads = Reads::new(alloc);
-    let Answer { run, written } = match answered(rt, alloc, job, ends, &mut reads, options) {
+    let Answer { run, written } = match answered(rt, alloc, job, ends, reads, options) {
         Ok(answer) => answer,
         Err(error) => return Err(error),
     };
     let mut run = run;
     let ends = run.good_ends(alloc, job.asked.files.len())?;
-    let reached = read_numbers(alloc, &reads)?;
+    let reached = read_numbers(alloc, reads)?;
     Ok(Finished {
         written,
         ends,

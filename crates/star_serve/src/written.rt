@@ -2,11 +2,11 @@
 //! the check of the files (`serve` runs nothing for that).
 
 ghost use Rattle.std.specs.Prelude.{◌≡◌, ◌<◌, [], ℕ, All, IfOk, List, false, length, string_bytes, true};
-ghost use Rattle.star_outcome.specs.Kept.{AllGood, RunView};
+ghost use Rattle.star_report.specs.Got as spec;
 ghost use Rattle.star_plan.specs.Plan.{Plan};
 ghost use Rattle.star_reading.specs.Readings.{Row};
 ghost use Rattle.star_report.specs.Drawn.{LeadWithin};
-ghost use Rattle.star_report.specs.Got as spec;
+ghost use Rattle.star_outcome.specs.Kept.{AllGood, RunView};
 ghost use Rattle.star_report.specs.Output.{IsSaid};
 ghost use Rattle.star_report.specs.declared.wanted.Output.TheVariants as output;
 ghost use Rattle.star_serve.specs.Written.{IsLineOf, IsTextOf};
@@ -140,8 +140,8 @@ fn check_written(
     roots: &[usize],
     only_roots: bool,
 ) -> Result<Written, AllocError>
-    requires reads { length reads.now.all.items ≡ length files.now }
     requires loads { LeadWithin reads.now.all.items }
+    requires reads { length reads.now.all.items ≡ length files.now }
     ensures text { IfOk result (λ w. (run : RunView)
         → IsTextOf (output.Check only_roots) files.now roots.now reads.now.all.items run w.text.items w.all_ok) }
     ensures said { IfOk result (λ w. (plan : Plan)

@@ -1,11 +1,12 @@
 -- A session: requests on a stream of lines, and their answers on another.
-use Rattle.std.specs.Prelude.{◌≡◌, ℕ, List, [], ◌∷◌, ◌++◌, Bool, true, false, Option}
+use Rattle.std.specs.Prelude.{◌≡◌, ℕ, List, [], ◌∷◌, ◌++◌, Bool, true, false, Option, None, Some}
 use Rattle.std.specs.List.{All, concat}
 use Rattle.std.specs.Prelude.{map}
 use Rattle.star_label.specs.Files.{File}
 use Rattle.star_serve.specs.Stream.{Adds, Gives, GivesAll, Said}
 use Rattle.star_session.specs.Answers.{Answering, AreAnswered}
 use Rattle.star_session.specs.Lines.{IsOneLine, ahead_of, lines_of}
+use Rattle.star_session.specs.declared.session.Begin.{Begin}
 use Rattle.star_session.specs.declared.session.Session.{Session}
 
 -- a line with its line end
@@ -50,6 +51,15 @@ abbrev pub IsStepOf : {R W : Type 0} → (R → Said) → (W → Option (List �
 IsStepOf said taken answering reader reader' writer writer' old new more =
     IsStep answering (said reader) (said reader') (ahead_of old.lines) (ahead_of new.lines) (taken writer)
     (taken writer') old.standing.files new.standing.files more
+
+-- .. in a generation: its lines are answered, and the next one begins so; or the last line is
+abbrev pub IsGenerationOf : {R W : Type 0} → (R → Said) → (W → Option (List ℕ)) → Answering → R → R → W → W → Begin
+    → Option Begin → Type 0
+IsGenerationOf said taken answering reader reader' writer writer' begin None =
+    IsRest answering (said reader) (said reader') (ahead_of begin.lines) (taken writer) (taken writer') begin.files
+IsGenerationOf said taken answering reader reader' writer writer' begin (Some next) =
+    IsPart answering (said reader) (said reader') (ahead_of begin.lines) (ahead_of next.lines) (taken writer)
+    (taken writer') begin.files next.files
 
 -- Between old and new all was read up to its end. The answers to its lines, one a line, were written in a row, and
 -- nothing else. There are no files at first.

@@ -1,14 +1,17 @@
 //! The answer to a request.
 
-ghost use Rattle.std.specs.Prelude.{◌≡◌, ◌<◌, ◌≤◌, ◌⊎◌, All, IfErr, IfOk, IfSome, Ok, length, map};
+ghost use Rattle.std.specs.Prelude.{◌≡◌, ◌<◌, ◌≤◌, ◌⊎◌, All, IfErr, IfOk, IfSome, Ok, OnOk, length, map};
+ghost use Rattle.star_serve.specs.Serve.{IsOutputFor};
 ghost use Rattle.serde_json.specs.Data.{Data};
 ghost use Rattle.star_bundle.specs.Bundle.{within_limits};
 ghost use Rattle.star_bundle.specs.Refusal.{Gives};
 ghost use Rattle.star_bundle.specs.View.{asked_view};
+ghost use Rattle.star_memo.specs.Readings.{AreReadings};
 ghost use Rattle.star_label.specs.Files.{limit_passed};
-ghost use Rattle.star_memo.specs.Outcomes.{AreOutcomes};
+ghost use Rattle.star_memo.specs.Lasting.{AreEndsNow};
 ghost use Rattle.star_memo.specs.Parses.{AreKept};
 ghost use Rattle.star_session.specs.Answers.{IsRefusalOf, IsReportOf, IsReportText, IsReported};
+ghost use Rattle.star_memo.specs.Outcomes.{AreAlike, AreOutcomes};
 ghost use Rattle.star_session.specs.Changes as spec;
 ghost use Rattle.star_session.specs.Changes.{change_of};
 ghost use Rattle.star_session.specs.Kept.{IsStanding};
@@ -22,13 +25,15 @@ use star_bundle::error::ServeError;
 use star_label::error::LabelError;
 use star_label::files::Files;
 use star_label::label::Label;
-use star_memo::outcomes::{Outcomes, Terms};
+use star_memo::lasting::first_to_run;
+use star_memo::outcomes::{Outcomes, Terms, free_ends};
 use star_memo::parses::Parses;
+use star_memo::readings::{Arena, Readings};
 use star_outcome::good_end::GoodEnd;
-use star_reading::reading::Trees;
 use star_report::wanted::{Output, Wanted};
 use star_serve::serve::{Finished, Job, Options, written_over};
-use std::alloc::Global;
+use std::alloc::{AllocError, Global};
+use std::mem;
 use std::sync::Wait;
 use std::thread::Threads;
 
@@ -40,19 +45,68 @@ struct Reported {
     reached: Vec<usize>,
 }
 
+/// Runs the roots that are asked for, with trees that lie in an arena. A file whose reading is there is not read again;
+/// after it the readings of the run are there too.
+fn run_over<'t, H: Threads + Wait + Sync>(
+    rt: &H,
+    alloc: Global,
+    asked: &AskedFor,
+    arena: &'t Arena,
+    ends: &[Option<GoodEnd>],
+    readings: &mut Readings<'t>,
+    options: &Options,
+) -> Result<Finished, ServeError>
+    requires ends { AreEndsNow asked.now.files asked.now.prelude options.now.steps ends.now }
+    requires readings { AreReadings asked.now.files readings.old }
+    requires seen { readings.old.prelude ≡ asked.now.prelude }
+    requires roots { All (λ n. n < length asked.now.files) asked.now.roots.items }
+    requires prelude { IfSome asked.now.prelude (λ n. n < length asked.now.files) }
+    requires loaders { (1 ≤ options.now.loaders) × (options.now.loaders ≤ 64) }
+    requires steps { (1 ≤ options.now.steps) × (options.now.steps ≤ 100000000) }
+    ensures kinds { IfErr result (λ e. (e ≡ ServeError.Memory) ⊎ (e ≡ ServeError.Unpublished)) }
+    ensures text { let o = options.now in IfOk result (λ f.
+        IsOutputFor o.output (asked_view asked.now) o.steps f.written.text.items f.written.all_ok) }
+    ensures ends { IfOk result (λ f.
+        AreOutcomes asked.now.files asked.now.prelude options.now.steps f.ends.items) }
+    ensures readings { IfOk result (λ _. AreReadings asked.now.files readings.new) }
+    ensures seen { readings.new.prelude ≡ readings.old.prelude }
+{
+    // Its length says that the files are in order.
+    let _ = asked.files.len();
+    let job = Job {
+        asked,
+        trees: &arena.trees,
+        parses: readings.parses.as_slice(),
+    };
+    let finished = written_over(rt, alloc, &job, ends, &mut readings.reads, options)?;
+    readings.reads.take_others();
+    Ok(finished)
+}
+
+/// The files that are reached first: the roots that are asked for, and the prelude.
+fn first_files(alloc: Global, asked: &AskedFor) -> Result<Vec<usize>, AllocError> {
+    let mut first: Vec<usize> = asked.roots.iter().copied().collect(alloc)?;
+    if let Some(n) = asked.prelude {
+        first.push(n)?;
+    }
+    Ok(first)
+}
+
 /// The report that is asked for, made with the kept values that stay. The texts that are reached are parsed first,
-/// unless they have trees, and their trees are kept.
+/// unless they have trees, and their trees are kept. A file whose reading stays is not read again.
 fn report_of<H: Threads + Wait + Sync>(
     rt: &H,
     alloc: Global,
     asked: &AskedFor,
-    staying: &mut Staying,
+    staying: &mut Staying<'_>,
     wanted: Wanted,
     loaders: usize,
     steps: u32,
 ) -> Result<Reported, ServeError>
     requires parses { AreKept asked.now.files staying.old.parses.all.items }
-    requires outcomes { AreOutcomes asked.now.files asked.now.prelude steps staying.old.outcomes.all.items }
+    requires ends { AreEndsNow asked.now.files asked.now.prelude steps staying.old.outcomes.all.items }
+    requires readings { AreReadings asked.now.files staying.old.readings }
+    requires seen { staying.old.readings.prelude ≡ asked.now.prelude }
     requires roots { All (λ n. n < length asked.now.files) asked.now.roots.items }
     requires prelude { IfSome asked.now.prelude (λ n. n < length asked.now.files) }
     requires loaders { (1 ≤ loaders) × (loaders ≤ 64) }
@@ -61,12 +115,16 @@ fn report_of<H: Threads + Wait + Sync>(
     ensures report { IfOk result (λ r. IsReportText wanted (asked_view asked.now) steps r.text.items) }
     ensures ends { IfOk result (λ r. AreOutcomes asked.now.files asked.now.prelude steps r.ends.items) }
     ensures parses { IfOk result (λ _. AreKept asked.now.files staying.new.parses.all.items) }
+    ensures readings { IfOk result (λ _. AreReadings asked.now.files staying.new.readings) }
+    ensures seen { staying.new.readings.prelude ≡ staying.old.readings.prelude }
+    ensures outcomes { staying.new.outcomes ≡ staying.old.outcomes }
+    ensures former { staying.new.former ≡ staying.old.former }
 {
     let options = Options {
-        loaders,
-        steps,
         roots: Vec::new(alloc),
         prelude: None,
+        loaders,
+        steps,
         output: Output::Report(wanted),
         trace: false,
         dir: None,
@@ -74,26 +132,22 @@ fn report_of<H: Threads + Wait + Sync>(
         progress: None,
         seed: staying.seed,
     };
-    // Its length says that the files are in order.
-    let _ = asked.files.len();
-    let roots = asked.roots.as_slice();
+    let first = first_files(alloc, asked)?;
+    let reads = staying.readings.reads.all.as_slice();
     staying
         .parses
-        .parse_reached(rt, alloc, &asked.files, roots, asked.prelude, loaders)?;
-    let trees = Trees::new(alloc)?;
-    let parses = staying.parses.views(alloc, &asked.files)?;
+        .parse_reached(rt, alloc, &asked.files, reads, first, loaders)?;
+    let arena = staying.arena;
+    staying
+        .readings
+        .take_parses(rt, arena, &asked.files, &staying.parses)?;
     let ends = staying.outcomes.all.as_slice();
-    let job = Job {
-        asked,
-        trees: &trees,
-        parses: &parses,
-    };
-    let finished = written_over(rt, alloc, &job, ends, &options)?;
+    let readings = &mut staying.readings;
     let Finished {
         written,
         ends,
         reached,
-    } = finished;
+    } = run_over(rt, alloc, asked, arena, ends, readings, &options)?;
     let mut text = written.text;
     text.pop();
     Ok(Reported {
@@ -101,6 +155,83 @@ fn report_of<H: Threads + Wait + Sync>(
         ends,
         reached,
     })
+}
+
+/// Runs these files, which have changed, and answers the good ends of the files that they reach.
+fn run_changed<H: Threads + Wait + Sync>(
+    rt: &H,
+    alloc: Global,
+    asked: &mut AskedFor,
+    changed: Vec<usize>,
+    staying: &mut Staying<'_>,
+    loaders: usize,
+    steps: u32,
+) -> Result<Vec<Option<GoodEnd>>, ServeError>
+    requires changed { All (λ n. n < length asked.old.files) changed.items }
+    requires parses { AreKept asked.old.files staying.old.parses.all.items }
+    requires ends { AreEndsNow asked.old.files asked.old.prelude steps staying.old.outcomes.all.items }
+    requires readings { AreReadings asked.old.files staying.old.readings }
+    requires seen { staying.old.readings.prelude ≡ asked.old.prelude }
+    requires prelude { IfSome asked.old.prelude (λ n. n < length asked.old.files) }
+    requires loaders { (1 ≤ loaders) × (loaders ≤ 64) }
+    requires steps { (1 ≤ steps) × (steps ≤ 100000000) }
+    ensures asked { asked.new ≡ asked.old }
+    ensures kinds { IfErr result (λ e. (e ≡ ServeError.Memory) ⊎ (e ≡ ServeError.Unpublished)) }
+    ensures ends { IfOk result (λ ends. AreOutcomes asked.old.files asked.old.prelude steps ends.items) }
+    ensures parses { IfOk result (λ _. AreKept asked.old.files staying.new.parses.all.items) }
+    ensures readings { IfOk result (λ _. AreReadings asked.old.files staying.new.readings) }
+    ensures seen { staying.new.readings.prelude ≡ staying.old.readings.prelude }
+    ensures outcomes { staying.new.outcomes ≡ staying.old.outcomes }
+    ensures former { staying.new.former ≡ staying.old.former }
+{
+    let roots = mem::replace(&mut asked.roots, changed);
+    let reported = report_of(rt, alloc, asked, staying, Wanted::NOTHING, loaders, steps);
+    asked.roots = roots;
+    let Reported { ends, .. } = reported?;
+    Ok(ends)
+}
+
+/// Runs the changed files, and then adds the ends of the files that stay though files that they need have changed. So
+/// these need not run again.
+fn keep_lasting<H: Threads + Wait + Sync>(
+    rt: &H,
+    alloc: Global,
+    before: &Files,
+    asked: &mut AskedFor,
+    staying: &mut Staying<'_>,
+    loaders: usize,
+    steps: u32,
+) -> Result<(), ServeError>
+    requires prelude { IfSome asked.old.prelude (λ n. n < length asked.old.files) }
+    requires loaders { (1 ≤ loaders) × (loaders ≤ 64) }
+    requires steps { (1 ≤ steps) × (steps ≤ 100000000) }
+    requires parses { AreKept asked.old.files staying.old.parses.all.items }
+    requires outcomes { AreOutcomes asked.old.files asked.old.prelude steps staying.old.outcomes.all.items }
+    requires terms { staying.old.outcomes.terms ≡ record { prelude = asked.old.prelude; steps = steps } }
+    requires former { AreOutcomes before.now asked.old.prelude steps staying.old.former.items }
+    requires alike { 0 < length staying.old.former.items → AreAlike before.now asked.old.files asked.old.prelude }
+    requires readings { AreReadings asked.old.files staying.old.readings }
+    requires seen { staying.old.readings.prelude ≡ asked.old.prelude }
+    ensures asked { asked.new ≡ asked.old }
+    ensures kinds { IfErr result (λ e. (e ≡ ServeError.Memory) ⊎ (e ≡ ServeError.Unpublished)) }
+    ensures ends { OnOk result
+        (AreEndsNow asked.old.files asked.old.prelude steps staying.new.outcomes.all.items) }
+    ensures terms { staying.new.outcomes.terms ≡ staying.old.outcomes.terms }
+    ensures parses { OnOk result (AreKept asked.old.files staying.new.parses.all.items) }
+    ensures readings { OnOk result (AreReadings asked.old.files staying.new.readings) }
+    ensures seen { staying.new.readings.prelude ≡ staying.old.readings.prelude }
+{
+    let former = staying.former.as_slice();
+    let Some(changed) = first_to_run(alloc, before, &asked.files, former)? else {
+        return Ok(());
+    };
+    let ends = match run_changed(rt, alloc, asked, changed, staying, loaders, steps) {
+        Ok(ends) => ends,
+        Err(error) => return Err(error),
+    };
+    staying.outcomes.add(ends);
+    staying.add_lasting(rt, alloc, before, &asked.files)?;
+    Ok(())
 }
 
 /// The files after changes.
@@ -125,22 +256,23 @@ fn files_after(
 /// The files after a request, the values that are kept for them, the report that was asked for, and the files that it
 /// reached.
 #[derive(Drop)]
-struct After {
+struct After<'t> {
     files: Files,
     parses: Parses,
     outcomes: Outcomes,
+    readings: Readings<'t>,
     last: Last,
     reached: Vec<usize>,
 }
 
 /// Makes the changes of a request, and the report of the files after them.
-fn report_after<H: Threads + Wait + Sync>(
+fn report_after<'t, H: Threads + Wait + Sync>(
     rt: &H,
     alloc: Global,
-    standing: &mut Standing,
+    standing: &mut Standing<'t>,
     request: Request,
     loaders: usize,
-) -> Result<After, ServeError>
+) -> Result<After<'t>, ServeError>
     requires standing { IsStanding standing.old }
     requires loaders { (1 ≤ loaders) × (loaders ≤ 64) }
     requires steps { (1 ≤ request.question.steps) × (request.question.steps ≤ 100000000) }
@@ -151,6 +283,7 @@ fn report_after<H: Threads + Wait + Sync>(
     ensures parses { IfOk result (λ a. AreKept a.files a.parses.all.items) }
     ensures outcomes { IfOk result (λ a.
         AreOutcomes a.files a.outcomes.terms.prelude a.outcomes.terms.steps a.outcomes.all.items) }
+    ensures readings { IfOk result (λ a. AreReadings a.files a.readings) }
     ensures question { IfOk result (λ a. a.last.question ≡ request.question) }
     ensures report { IfOk result (λ a. IsReportOf a.files (question_of a.last.question) a.last.report.items) }
     ensures refused { IfErr result (IsRefusalOf standing.old.files (asked_by request)) }
@@ -161,33 +294,30 @@ fn report_after<H: Threads + Wait + Sync>(
         Err(error) => return Err(error),
     };
     let prelude = question.prelude.as_ref();
-    let asked = match asked_in(alloc, files, question.roots.as_slice(), prelude) {
+    let mut asked = match asked_in(alloc, files, question.roots.as_slice(), prelude) {
         Ok(asked) => asked,
         Err(error) => return Err(error),
     };
+    let (steps, wanted) = (question.steps, question.wanted);
     let terms = Terms {
         prelude: asked.prelude,
-        steps: question.steps,
+        steps,
     };
     let mut staying = standing.staying(rt, alloc, &asked.files, terms, loaders)?;
-    let reported = report_of(
-        rt,
-        alloc,
-        &asked,
-        &mut staying,
-        question.wanted,
-        loaders,
-        question.steps,
-    )?;
+    let before = &standing.files;
+    keep_lasting(rt, alloc, before, &mut asked, &mut staying, loaders, steps)?;
+    let reported = report_of(rt, alloc, &asked, &mut staying, wanted, loaders, steps)?;
     let Reported {
         text: report,
         ends,
         reached,
     } = reported;
+    free_ends(rt, alloc, staying.former, loaders);
     Ok(After {
         files: asked.files,
         parses: staying.parses,
         outcomes: Outcomes { all: ends, terms },
+        readings: staying.readings,
         last: Last { question, report },
         reached,
     })
@@ -207,7 +337,7 @@ pub(crate) struct Limits {
 pub(crate) fn answered<H: Threads + Wait + Sync>(
     rt: &H,
     alloc: Global,
-    standing: &mut Standing,
+    standing: &mut Standing<'_>,
     id: &str,
     request: Request,
     limits: Limits,
@@ -234,13 +364,15 @@ pub(crate) fn answered<H: Threads + Wait + Sync>(
         files,
         parses,
         outcomes,
+        readings,
         last,
         reached,
     } = after;
     standing.files = files;
-    standing.parses = parses;
-    standing.outcomes = outcomes;
-    standing.last = Some(last);
+    standing.kept.parses = parses;
+    standing.kept.outcomes = outcomes;
+    standing.kept.last = Some(last);
+    standing.readings = readings;
     standing.trim(alloc, &reached, limits.keep);
     Ok(line)
 }

@@ -19,7 +19,7 @@ use crate::answer::{Limits, answered};
 use crate::question::Question;
 use crate::refusal::refusal;
 use crate::request::Request;
-use crate::standing::Standing;
+use crate::standing::{KeptValues, Standing};
 use star_bundle::error::ServeError;
 use star_folder::folder::FolderError;
 use star_label::files::Files;
@@ -122,7 +122,7 @@ fn files_looked_at<H: Threads + Wait + Sync, F: Repo + Copy>(
     rt: &H,
     alloc: Global,
     folder: &F,
-    before: &Standing,
+    before: &Standing<'_>,
     request: &Request,
     loaders: usize,
 ) -> Result<Files, RepoError>
@@ -132,6 +132,7 @@ fn files_looked_at<H: Threads + Wait + Sync, F: Repo + Copy>(
 {
     let trees = Trees::new(alloc).map_err(no_memory)?;
     let parses = before
+        .kept
         .parses
         .views(alloc, &before.files)
         .map_err(no_memory)?;
@@ -162,7 +163,7 @@ fn look<H: Threads + Wait + Sync, F: Repo + Copy>(
     rt: &H,
     alloc: Global,
     folder: &F,
-    standing: &mut Standing,
+    standing: &mut Standing<'_>,
     request: &Request,
     loaders: usize,
     empty: Files,
@@ -176,7 +177,8 @@ fn look<H: Threads + Wait + Sync, F: Repo + Copy>(
     ensures none { OnErr result (standing.new.files ≡ []) }
     ensures refused { IfErr result (IsUnseen (F.says folder.now) standing.old.files (asked_by request.now)) }
 {
-    let empty = Standing::new(alloc, empty, standing.seed);
+    let kept = KeptValues::new(alloc, standing.kept.seed);
+    let empty = Standing::new(alloc, empty, kept, standing.arena);
     let before = mem::replace(standing, empty);
     let files = match files_looked_at(rt, alloc, folder, &before, request, loaders) {
         Ok(files) => files,
@@ -218,7 +220,7 @@ fn unseen(alloc: Global, id: &str, error: &RepoError) -> Result<Vec<u8>, AllocEr
 fn seen<H: Threads + Wait + Sync>(
     rt: &H,
     alloc: Global,
-    standing: &mut Standing,
+    standing: &mut Standing<'_>,
     id: &str,
     question: Question,
     limits: Limits,
@@ -247,14 +249,14 @@ pub(crate) fn answered_from<H: Threads + Wait + Sync, F: Repo + Copy>(
     rt: &H,
     alloc: Global,
     folder: &F,
-    standing: &mut Standing,
+    standing: &mut Standing<'_>,
     id: &str,
     request: Request,
     limits: Limits,
 ) -> Result<Vec<u8>, AllocError>
+    requires steps { (1 ≤ request.question.steps) × (request.question.steps ≤ 100000000) }
     requires standing { IsStanding standing.old }
     requires loaders { (1 ≤ limits.loaders) × (limits.loaders ≤ 64) }
-    requires steps { (1 ≤ request.question.steps) × (request.question.steps ≤ 100000000) }
     ensures standing { IsStanding standing.new }
     ensures answered { IfOk result (λ line. AnswersBy (F.says folder.now) id.now (asked_by request)
         standing.old.files standing.new.files line.items) }

@@ -2,9 +2,10 @@
 //!
 //! `lines` cuts the stream into lines. `request` reads a line: changes of files, and a question about them. `standing`
 //! has the files as the requests so far leave them, and the values that are kept for them (`star_memo`): the trees of
-//! their texts, and the outcomes of the files that the last request reached. `answer` runs a request and writes its
-//! answer. If the files are not sent, `folder` first looks at the files of a folder. `session` goes through all
-//! requests. The form of requests and answers is in `docs/REQUESTS.md`.
+//! their texts, and the outcomes and the readings of the files that the last request reached. `answer` runs a request
+//! and writes its answer. If the files are not sent, `folder` first looks at the files of a folder. `session` goes
+//! through all requests. Readings borrow from an arena of trees. When it is full, both are freed: a generation has
+//! ended. The form of requests and answers is in `docs/REQUESTS.md`.
 #![tactic(auto)]
 
 mod answer;

@@ -1,16 +1,16 @@
 //! Requests on a stream of lines, one answer a line.
 
-ghost use Rattle.std.specs.Prelude.{◌≡◌, ◌≢◌, ◌+◌, ◌≤◌, IfErr, IfOk, MatchResult, OnOk, codes, string_bytes};
+ghost use Rattle.std.specs.Prelude.{◌≡◌, ◌≢◌, ◌+◌, ◌≤◌, IfErr, IfOk, IfSome, MatchResult, OnOk, codes, is_some, string_bytes};
 ghost use Rattle.serde_json.specs.Data.{null, string};
 ghost use Rattle.serde_json.specs.View.{view};
 ghost use Rattle.serde_json.specs.Written.{compact_text};
 ghost use Rattle.star_bundle.specs.Refusal.{reads_failed, writes_failed};
 ghost use Rattle.star_session.specs.Answers.{AnswersPiece, AnswersValue, IsRefusal, answer_line, no_memory_line};
 ghost use Rattle.star_session.specs.Folders.{AnswersIn, AnswersRequestIn, AnswersSent, LosesRequestIn};
-ghost use Rattle.star_session.specs.Kept.{IsStanding};
+ghost use Rattle.star_session.specs.Kept.{AreKeptFor, IsStanding};
 ghost use Rattle.star_session.specs.Lines.{IsCut};
 ghost use Rattle.star_session.specs.Requests.{IsIdText, line_too_long, text_of};
-ghost use Rattle.star_session.specs.Session.{IsSession, IsStepOf};
+ghost use Rattle.star_session.specs.Session.{IsGenerationOf, IsSession, IsStepOf};
 ghost use Rattle.star_session.specs.declared.request.RequestError.TheVariants as why;
 
 use crate::answer::{Limits, answered};
@@ -18,11 +18,12 @@ use crate::folder::answered_from;
 use crate::lines::{Line, Lines};
 use crate::refusal::{NO_MEMORY, refusal};
 use crate::request::{Defaults, Origin, Request, RequestError, id_text, request_in, value_in};
-use crate::standing::Standing;
+use crate::standing::{KeptValues, Standing};
 use serde_json::Value;
 use star_bundle::error::ServeError;
 use star_label::error::LabelError;
 use star_label::files::Files;
+use star_memo::readings::Arena;
 use star_repo::repo::Repo;
 use star_serve::stream::{Sink, Source};
 use std::alloc::{AllocError, Global};
@@ -60,7 +61,7 @@ fn misread(alloc: Global, id: &str, error: &RequestError) -> Result<Vec<u8>, All
 fn answer_sent<H: Threads + Wait + Sync>(
     rt: &H,
     alloc: Global,
-    standing: &mut Standing,
+    standing: &mut Standing<'_>,
     id: &str,
     request: Request,
     settings: &Settings,
@@ -88,7 +89,7 @@ fn answer_request<H: Threads + Wait + Sync, F: Repo + Copy>(
     rt: &H,
     alloc: Global,
     folder: &F,
-    standing: &mut Standing,
+    standing: &mut Standing<'_>,
     settings: &Settings,
     id: &str,
     request: Request,
@@ -119,7 +120,7 @@ fn answer_value<H: Threads + Wait + Sync, F: Repo + Copy>(
     rt: &H,
     alloc: Global,
     folder: &F,
-    standing: &mut Standing,
+    standing: &mut Standing<'_>,
     settings: &Settings,
     value: Value,
 ) -> Result<Vec<u8>, AllocError>
@@ -169,7 +170,7 @@ fn answer<H: Threads + Wait + Sync, F: Repo + Copy>(
     rt: &H,
     alloc: Global,
     folder: &F,
-    standing: &mut Standing,
+    standing: &mut Standing<'_>,
     settings: &Settings,
     line: Line,
     bytes: &[u8],
@@ -205,9 +206,38 @@ fn said(answer: &Result<Vec<u8>, AllocError>) -> &[u8]
 
 /// The state of a session: the files with the values that are kept for them, and the lines that were read.
 #[derive(Drop)]
-struct Session {
-    standing: Standing,
+struct Session<'t> {
+    standing: Standing<'t>,
     lines: Lines,
+}
+
+/// The state of a session as a generation of readings begins: none of them is there yet, and nothing borrows from the
+/// arena.
+#[derive(Drop)]
+struct Begin {
+    files: Files,
+    kept: KeptValues,
+    lines: Lines,
+    arena: Arena,
+}
+
+impl Session<'_> {
+    /// The state as the next generation begins, over this arena.
+    fn begin(self, arena: Arena) -> Begin
+        requires { IsStanding self.standing }
+        ensures files { result.files ≡ self.entry.standing.files }
+        ensures kept { AreKeptFor result.files result.kept }
+        ensures lines { result.lines ≡ self.entry.lines }
+    {
+        let Session { standing, lines } = self;
+        let (files, kept) = standing.lasting();
+        Begin {
+            files,
+            kept,
+            lines,
+            arena,
+        }
+    }
 }
 
 /// Writes the answer to the next line. It answers whether more lines may come.
@@ -215,7 +245,7 @@ fn next_answer<H: Threads + Wait + Sync, F: Repo + Copy, R: Source, W: Sink>(
     rt: &H,
     alloc: Global,
     folder: &F,
-    session: &mut Session,
+    session: &mut Session<'_>,
     settings: &Settings,
     reader: &mut R,
     writer: &mut W,
@@ -251,6 +281,75 @@ fn next_answer<H: Threads + Wait + Sync, F: Repo + Copy, R: Source, W: Sink>(
     }
 }
 
+/// Writes the answers to the lines of a generation of readings, until the arena is to be freed. It answers the arena of
+/// the next generation, or none after the last line. If there is no memory for another arena, the generation goes on.
+fn answer_lines<H: Threads + Wait + Sync, F: Repo + Copy, R: Source, W: Sink>(
+    rt: &H,
+    alloc: Global,
+    folder: &F,
+    session: &mut Session<'_>,
+    settings: &Settings,
+    reader: &mut R,
+    writer: &mut W,
+) -> Result<Option<Arena>, ServeError>
+    requires standing { IsStanding session.old.standing }
+    requires cut { IsCut session.old.lines }
+    requires loaders { (1 ≤ settings.now.loaders) × (settings.now.loaders ≤ 64) }
+    requires steps { (1 ≤ settings.now.defaults.steps) × (settings.now.defaults.steps ≤ 100000000) }
+    ensures standing { IsStanding session.new.standing }
+    ensures cut { OnOk result (IsCut session.new.lines) }
+    ensures step { IfOk result (λ next. IsStepOf R.said W.taken (AnswersIn (F.says folder.now) settings.now)
+        reader.old reader.new writer.old writer.new session.old session.new (is_some next)) }
+    ensures reads { R.failed reader.new ≡ R.failed reader.old + reads_failed result }
+    ensures writes { W.failed writer.new ≡ W.failed writer.old + writes_failed result }
+{
+    for _ in rt.forever() {
+        if !next_answer(rt, alloc, folder, session, settings, reader, writer)? {
+            return Ok(None);
+        }
+        if let Some(arena) = session.standing.next_arena(alloc, settings.keep) {
+            return Ok(Some(arena));
+        }
+    }
+    unreachable!()
+}
+
+/// Answers the lines of a generation of readings, and frees these and their arena. It answers the state as the next
+/// generation begins, or none after the last line.
+fn answer_generation<H: Threads + Wait + Sync, F: Repo + Copy, R: Source, W: Sink>(
+    rt: &H,
+    alloc: Global,
+    folder: &F,
+    begin: Begin,
+    settings: &Settings,
+    reader: &mut R,
+    writer: &mut W,
+) -> Result<Option<Begin>, ServeError>
+    requires kept { AreKeptFor begin.files begin.kept }
+    requires cut { IsCut begin.lines }
+    requires loaders { (1 ≤ settings.now.loaders) × (settings.now.loaders ≤ 64) }
+    requires steps { (1 ≤ settings.now.defaults.steps) × (settings.now.defaults.steps ≤ 100000000) }
+    ensures kept { IfOk result (λ next. IfSome next (λ b. AreKeptFor b.files b.kept)) }
+    ensures cut { IfOk result (λ next. IfSome next (λ b. IsCut b.lines)) }
+    ensures step { IfOk result (IsGenerationOf R.said W.taken (AnswersIn (F.says folder.now) settings.now)
+        reader.old reader.new writer.old writer.new begin) }
+    ensures reads { R.failed reader.new ≡ R.failed reader.old + reads_failed result }
+    ensures writes { W.failed writer.new ≡ W.failed writer.old + writes_failed result }
+{
+    let Begin {
+        files,
+        kept,
+        lines,
+        arena,
+    } = begin;
+    let standing = Standing::new(alloc, files, kept, &arena);
+    let mut session = Session { standing, lines };
+    match answer_lines(rt, alloc, folder, &mut session, settings, reader, writer)? {
+        Some(next) => Ok(Some(session.begin(next))),
+        None => Ok(None),
+    }
+}
+
 /// Answers requests, one a line, each with one line, up to the end of the stream. The files are those that the requests
 /// so far leave: none at first. Or they are those of `folder`, by `settings.defaults.origin`. Then a file that the last
 /// request looked at is looked at again only if a request says that it has changed.
@@ -281,12 +380,16 @@ pub fn serve_requests<H: Threads + Wait + Sync, F: Repo + Copy, R: Source, W: Si
         Err(LabelError::Memory) => return Err(ServeError::Memory),
         Err(_) => unreachable!(),
     };
-    let standing = Standing::new(alloc, files, settings.seed);
-    let lines = Lines::new(alloc)?;
-    let mut session = Session { standing, lines };
+    let mut begin = Begin {
+        files,
+        kept: KeptValues::new(alloc, settings.seed),
+        lines: Lines::new(alloc)?,
+        arena: Arena::new(alloc)?,
+    };
     for _ in rt.forever() {
-        if !next_answer(rt, alloc, folder, &mut session, settings, reader, writer)? {
-            return Ok(());
+        match answer_generation(rt, alloc, folder, begin, settings, reader, writer)? {
+            Some(next) => begin = next,
+            None => return Ok(()),
         }
     }
     unreachable!()

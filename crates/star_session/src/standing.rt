@@ -1,14 +1,16 @@
 //! The files as the requests so far leave them, and the values that are kept for them.
 
-ghost use Rattle.std.specs.Prelude.{◌≡◌, ◌≤◌, true, IfOk, IfSome, OnOk, map, option_map, string_bytes};
-ghost use Rattle.star_label.specs.Files.{file_of};
+ghost use Rattle.std.specs.Prelude.{◌≡◌, ◌<◌, ◌≤◌, true, List, IfOk, IfSome, OnOk, length, map, option_map, string_bytes};
+ghost use Rattle.star_label.specs.Files.{File, file_of};
 ghost use Rattle.star_label.specs.View.{text_of};
-ghost use Rattle.star_memo.specs.Outcomes.{AreOutcomes};
+ghost use Rattle.star_memo.specs.Lasting.{AreEndsNow};
+ghost use Rattle.star_memo.specs.Outcomes.{AreAlike, AreOutcomes};
 ghost use Rattle.star_memo.specs.Parses.{AreKept};
+ghost use Rattle.star_memo.specs.Readings.{AreKnown, AreReadings};
 ghost use Rattle.star_session.specs.Changes as spec;
 ghost use Rattle.star_session.specs.Answers.{IsReportOf};
 ghost use Rattle.star_session.specs.Changes.{change_of};
-ghost use Rattle.star_session.specs.Kept.{IsLast, IsStanding};
+ghost use Rattle.star_session.specs.Kept.{AreKeptFor, IsStanding};
 ghost use Rattle.star_session.specs.Requests.{asked_by, question_of};
 
 use crate::question::Question;
@@ -16,8 +18,11 @@ use crate::request::Request;
 use star_label::error::LabelError;
 use star_label::files::Files;
 use star_label::label::Label;
-use star_memo::outcomes::{Outcomes, Terms};
+use star_memo::lasting::Change;
+use star_memo::outcomes::{Outcomes, Terms, free_ends};
 use star_memo::parses::Parses;
+use star_memo::readings::{Arena, Readings};
+use star_outcome::good_end::GoodEnd;
 use std::alloc::{AllocError, Global};
 use std::collections::BTreeMap;
 use std::mem;
@@ -31,10 +36,8 @@ pub(crate) struct Last {
     pub report: Vec<u8>,
 }
 
-/// The files as the requests so far leave them, and the values that are kept for the next request.
-#[derive(Drop)]
-pub(crate) struct Standing {
-    pub files: Files,
+/// The values that are kept for files from one request to the next.
+pub(crate) struct KeptValues {
     /// The results of parsing their texts.
     pub parses: Parses,
     /// The outcomes of the files that ended well.
@@ -47,11 +50,37 @@ pub(crate) struct Standing {
     pub seed: u64,
 }
 
+impl Drop for KeptValues {
+    fn drop(self) {
+        let KeptValues {
+            parses: _,
+            outcomes: _,
+            last: _,
+            requests: _,
+            seed: _,
+        } = self;
+    }
+}
+
+/// The files as the requests so far leave them, and all that is kept for the next request.
+#[derive(Drop)]
+pub(crate) struct Standing<'t> {
+    pub files: Files,
+    pub kept: KeptValues,
+    /// The results of reading the files. They borrow from the arena.
+    pub readings: Readings<'t>,
+    pub arena: &'t Arena,
+}
+
 /// The kept values that stay when the files change.
 #[derive(Drop)]
-pub(crate) struct Staying {
+pub(crate) struct Staying<'t> {
     pub parses: Parses,
     pub outcomes: Outcomes,
+    /// The other outcomes of the files before, by the numbers of the files.
+    pub former: Vec<Option<GoodEnd>>,
+    pub readings: Readings<'t>,
+    pub arena: &'t Arena,
     /// The seed for the hashes of keys in each run.
     pub seed: u64,
 }
@@ -140,24 +169,99 @@ fn are_as(files: &Files, changes: &[(Label, Option<String>)]) -> bool
     true
 }
 
-impl Standing {
-    /// These files, with nothing kept.
-    pub(crate) fn new(alloc: Global, files: Files, seed: u64) -> Standing
-        ensures files { result.files ≡ files }
-        ensures standing { IsStanding result }
+impl KeptValues {
+    /// Nothing is kept.
+    pub(crate) fn new(alloc: Global, seed: u64) -> KeptValues
+        ensures { (files : List File) → AreKeptFor files result }
     {
         let terms = Terms {
             prelude: None,
             steps: 1,
         };
-        Standing {
-            files,
+        KeptValues {
             parses: Parses::new(alloc),
             outcomes: Outcomes::new(alloc, terms),
             last: None,
             requests: 0,
             seed,
         }
+    }
+}
+
+impl Staying<'_> {
+    /// Adds the ends that last though files that they need have changed. They are stale. The error: an allocation
+    /// failed.
+    pub(crate) fn add_lasting<H: Wait>(
+        &mut self,
+        rt: &H,
+        alloc: Global,
+        before: &Files,
+        files: &Files,
+    ) -> Result<(), AllocError>
+        requires alike { AreAlike before.now files.now self.old.outcomes.terms.prelude }
+        requires former { let terms = self.old.outcomes.terms in
+            AreOutcomes before.now terms.prelude terms.steps self.old.former.items }
+        requires outcomes { let terms = self.old.outcomes.terms in
+            AreOutcomes files.now terms.prelude terms.steps self.old.outcomes.all.items }
+        requires reads { AreKnown files.now self.old.outcomes.terms.prelude self.old.readings.reads.all.items }
+        ensures ends { let terms = self.old.outcomes.terms in OnOk result
+            (AreEndsNow files.now terms.prelude terms.steps self.new.outcomes.all.items) }
+        ensures terms { self.new.outcomes.terms ≡ self.old.outcomes.terms }
+        ensures parses { self.new.parses ≡ self.old.parses }
+        ensures readings { self.new.readings ≡ self.old.readings }
+    {
+        let change = Change {
+            before,
+            files,
+            former: self.former.as_slice(),
+            ends: self.outcomes.all.as_slice(),
+            reads: self.readings.reads.all.as_slice(),
+            terms: self.outcomes.terms,
+        };
+        let marks = change.lasting(rt, alloc)?;
+        self.outcomes.add_lasting(&mut self.former, &marks);
+        Ok(())
+    }
+}
+
+impl<'t> Standing<'t> {
+    /// These files, with the values that are kept for them. None is read yet.
+    pub(crate) fn new(
+        alloc: Global,
+        files: Files,
+        kept: KeptValues,
+        arena: &'t Arena,
+    ) -> Standing<'t>
+        requires { AreKeptFor files kept }
+        ensures files { result.files ≡ files }
+        ensures standing { IsStanding result }
+    {
+        let readings = Readings::new(alloc, kept.outcomes.terms.prelude);
+        Standing {
+            files,
+            kept,
+            readings,
+            arena,
+        }
+    }
+
+    /// An arena to take the place of this one, if this one is full: `keep` bytes of texts may have trees. None if there
+    /// is no memory for another one.
+    pub(crate) fn next_arena(&self, alloc: Global, keep: usize) -> Option<Arena> {
+        if !self.arena.is_full(&self.files, &self.kept.parses, keep) {
+            return None;
+        }
+        Arena::new(alloc).ok()
+    }
+
+    /// The files and the values that are kept for them, without the readings.
+    pub(crate) fn lasting(self) -> (Files, KeptValues)
+        requires { IsStanding self }
+        ensures files { result.0 ≡ self.entry.files }
+        ensures kept { AreKeptFor result.0 result.1 }
+    {
+        let Standing { files, kept, .. } = self;
+        (files, kept)
     }
 
     /// Whether a request leaves the files as they are, and asks the question that this report answers.
@@ -178,7 +282,7 @@ impl Standing {
             spec.files_after self.now.files (map change_of request.now.changes.items) ≡ self.now.files) }
         ensures report { IfSome result (λ report. IsReportOf self.now.files (asked_by request.now) report.now) }
     {
-        let Some(last) = &self.last else {
+        let Some(last) = &self.kept.last else {
             return None;
         };
         if !self.is_answered_by(last, request) {
@@ -187,8 +291,8 @@ impl Standing {
         Some(last.report.as_slice())
     }
 
-    /// The kept values that stay if these files take the place of the files before, under these terms. The outcomes are
-    /// taken out of `self`. The error: an allocation failed.
+    /// The kept values that stay if these files take the place of the files before, under these terms. The outcomes and
+    /// the readings are taken out of `self`. The error: an allocation failed.
     pub(crate) fn staying<H: Threads + Wait + Sync>(
         &mut self,
         rt: &H,
@@ -196,7 +300,7 @@ impl Standing {
         files: &Files,
         terms: Terms,
         threads: usize,
-    ) -> Result<Staying, AllocError>
+    ) -> Result<Staying<'t>, AllocError>
         requires standing { IsStanding self.old }
         requires threads { 1 ≤ threads }
         ensures files { self.new.files ≡ self.old.files }
@@ -204,14 +308,23 @@ impl Standing {
         ensures parses { IfOk result (λ s. AreKept files.now s.parses.all.items) }
         ensures terms { IfOk result (λ s. s.outcomes.terms ≡ terms) }
         ensures outcomes { IfOk result (λ s. AreOutcomes files.now terms.prelude terms.steps s.outcomes.all.items) }
+        ensures former { IfOk result (λ s. AreOutcomes self.old.files terms.prelude terms.steps s.former.items) }
+        ensures alike { IfOk result (λ s.
+            0 < length s.former.items → AreAlike self.old.files files.now terms.prelude) }
+        ensures prelude { IfOk result (λ s. s.readings.prelude ≡ terms.prelude) }
+        ensures readings { IfOk result (λ s. AreReadings files.now s.readings) }
     {
-        let parses = self.parses.after(alloc, &self.files, files)?;
-        let before = mem::replace(&mut self.outcomes, Outcomes::new(alloc, terms));
-        let outcomes = before.after(rt, alloc, &self.files, files, terms, threads)?;
+        let parses = self.kept.parses.after(alloc, &self.files, files)?;
+        let before = mem::replace(&mut self.kept.outcomes, Outcomes::new(alloc, terms));
+        let (outcomes, former) = before.after(rt, alloc, &self.files, files, terms, threads)?;
+        let before = mem::replace(&mut self.readings, Readings::new(alloc, terms.prelude));
         Ok(Staying {
             parses,
             outcomes,
-            seed: self.seed,
+            former,
+            readings: before.after(alloc, &self.files, files, terms.prelude),
+            arena: self.arena,
+            seed: self.kept.seed,
         })
     }
 
@@ -222,22 +335,27 @@ impl Standing {
         alloc: Global,
         files: Files,
         threads: usize,
-    ) -> Result<Standing, AllocError>
+    ) -> Result<Standing<'t>, AllocError>
         requires standing { IsStanding self }
         requires threads { 1 ≤ threads }
         ensures files { IfOk result (λ s. s.files ≡ files) }
         ensures standing { IfOk result IsStanding }
     {
         let mut before = self;
-        let terms = before.outcomes.terms;
+        let terms = before.kept.outcomes.terms;
         let staying = before.staying(rt, alloc, &files, terms, threads)?;
+        free_ends(rt, alloc, staying.former, threads);
         Ok(Standing {
             files,
-            parses: staying.parses,
-            outcomes: staying.outcomes,
-            last: None,
-            requests: before.requests,
-            seed: before.seed,
+            kept: KeptValues {
+                parses: staying.parses,
+                outcomes: staying.outcomes,
+                last: None,
+                requests: before.kept.requests,
+                seed: before.kept.seed,
+            },
+            readings: staying.readings,
+            arena: before.arena,
         })
     }
 
@@ -248,10 +366,10 @@ impl Standing {
         ensures files { self.new.files ≡ self.old.files }
         ensures standing { IsStanding self.new }
     {
-        self.requests = self.requests.saturating_add(1);
-        self.parses.touch_each(reached, self.requests);
-        if self.parses.trim(alloc, &self.files, keep) {
-            self.outcomes = Outcomes::new(alloc, self.outcomes.terms);
+        self.kept.requests = self.kept.requests.saturating_add(1);
+        self.kept.parses.touch_each(reached, self.kept.requests);
+        if self.kept.parses.trim(alloc, &self.files, keep) {
+            self.kept.outcomes = Outcomes::new(alloc, self.kept.outcomes.terms);
         }
     }
 }

@@ -1,15 +1,20 @@
 //! The values that are kept from one request to the next.
 
-ghost use Rattle.std.specs.Prelude.{◌≤◌};
+ghost use Rattle.std.specs.Prelude.{◌≡◌, ◌≤◌, IfOk, None, OnOk, length};
+ghost use Rattle.star_memo.specs.Readings.{AreReadings};
 
 use star_checks::holds;
+use star_host::{Reads, Texts, read_parsed};
 use star_label::files::Files;
 use star_label::label::Label;
 use star_memo::outcomes::{Outcomes, Terms};
 use star_memo::parses::Parses;
+use star_memo::readings::{Arena, Readings};
 use std::alloc::Global;
 use std::collections::BTreeMap;
+use std::sync::Wait;
 use std::test::Fail;
+use std::thread::Threads;
 
 /// Two files. The second one has this text.
 fn pair(alloc: Global, text: &str) -> Result<Files, Fail> {
@@ -34,13 +39,80 @@ fn chain(alloc: Global, count: u32) -> Result<Files, Fail>
     Ok(Files::new(alloc, files)?)
 }
 
+/// Reads the first two files, by their trees that lie in the arena.
+fn read_over<'t, R: Threads + Wait + Sync>(
+    rt: &R,
+    alloc: Global,
+    files: &Files,
+    arena: &'t Arena,
+    readings: &mut Readings<'t>,
+) -> Result<(), Fail>
+    requires files { 2 ≤ length files.now }
+    requires readings { AreReadings files.now readings.old }
+    requires prelude { readings.old.prelude ≡ None }
+    ensures { OnOk result (AreReadings files.now readings.new) }
+{
+    let texts = Texts {
+        files,
+        trees: &arena.trees,
+        parses: readings.parses.as_slice(),
+    };
+    let none = Reads::new(alloc);
+    let reads = read_parsed(rt, alloc, texts, none, &[0, 1], None, 2)?;
+    readings.reads = reads;
+    Ok(())
+}
+
+/// The readings of the first two files, whose trees are put into the arena.
+fn read_two<'t, R: Threads + Wait + Sync>(
+    rt: &R,
+    alloc: Global,
+    files: &Files,
+    arena: &'t Arena,
+) -> Result<Readings<'t>, Fail>
+    requires { 2 ≤ length files.now }
+    ensures { IfOk result (AreReadings files.now) }
+{
+    let mut parses = Parses::new(alloc).after(alloc, files, files)?;
+    let first = [0, 1].iter().copied().collect(alloc)?;
+    parses.parse_reached(rt, alloc, files, &[], first, 2)?;
+    let mut readings = Readings::new(alloc, None);
+    readings.take_parses(rt, arena, files, &parses)?;
+    read_over(rt, alloc, files, arena, &mut readings)?;
+    Ok(readings)
+}
+
+#[test]
+fn the_reading_of_a_text_that_stays_is_kept(rt: HostRuntime) -> Result<(), Fail> {
+    let alloc = rt.alloc();
+    let before = pair(alloc, "y = 2")?;
+    let files = pair(alloc, "y = 3")?;
+    if before.len() != 2 {
+        return Err(Fail::from("two files are wanted"));
+    }
+    let arena = Arena::new(alloc)?;
+    let readings = read_two(&rt, alloc, &before, &arena)?;
+    holds!(&rt; matches!(readings.reads.all.as_slice(), [Some(_), Some(_)]), "both are read");
+    holds!(&rt; arena.trees.all.is_empty(), "no text is parsed again");
+    let readings = readings.after(alloc, &before, &files, None);
+    holds!(&rt; matches!(readings.reads.all.as_slice(), [Some(_), None]), "the first stays");
+    holds!(&rt; matches!(readings.parses.as_slice(), [Some(_), None]), "so does its tree");
+    let readings = readings.after(alloc, &files, &files, Some(0));
+    holds!(&rt; readings.reads.all.is_empty(), "with another prelude none stays");
+    let none = Parses::new(alloc);
+    holds!(&rt; !arena.is_full(&files, &none, 10), "the texts have ten bytes");
+    holds!(&rt; arena.is_full(&files, &none, 9), "they have too many");
+    Ok(())
+}
+
 #[test]
 fn a_text_that_stays_keeps_its_tree(rt: HostRuntime) -> Result<(), Fail> {
     let alloc = rt.alloc();
     let before = pair(alloc, "y = 2")?;
     let files = pair(alloc, "y = 3")?;
     let mut parses = Parses::new(alloc).after(alloc, &before, &before)?;
-    parses.parse_reached(&rt, alloc, &before, &[0, 1], None, 2)?;
+    let first = [0, 1].iter().copied().collect(alloc)?;
+    parses.parse_reached(&rt, alloc, &before, &[], first, 2)?;
     let views = parses.views(alloc, &before)?;
     holds!(&rt; views.iter().all(|view| view.is_some()), "both are parsed");
     let mut parses = parses.after(alloc, &before, &files)?;
@@ -58,7 +130,8 @@ fn several_threads_parse_all_that_is_reached(rt: HostRuntime) -> Result<(), Fail
     let alloc = rt.alloc();
     let files = chain(alloc, 40)?;
     let mut parses = Parses::new(alloc).after(alloc, &files, &files)?;
-    parses.parse_reached(&rt, alloc, &files, &[0], Some(39), 2)?;
+    let first = [0, 39].iter().copied().collect(alloc)?;
+    parses.parse_reached(&rt, alloc, &files, &[], first, 2)?;
     let views = parses.views(alloc, &files)?;
     holds!(&rt; views.iter().all(|view| view.is_some()), "all are parsed");
     Ok(())
@@ -72,7 +145,9 @@ fn no_outcome_is_kept_of_no_run(rt: HostRuntime) -> Result<(), Fail> {
         prelude: None,
         steps: 9,
     };
-    let outcomes = Outcomes::new(alloc, terms).after(&rt, alloc, &files, &files, terms, 2)?;
+    let none = Outcomes::new(alloc, terms);
+    let (outcomes, others) = none.after(&rt, alloc, &files, &files, terms, 2)?;
     holds!(&rt; outcomes.all.is_empty(), "none is kept");
+    holds!(&rt; others.is_empty(), "there are no others");
     Ok(())
 }

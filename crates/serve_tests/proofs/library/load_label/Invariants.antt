@@ -5,8 +5,4 @@ abbrev pub ghosts-load_first-J-Ledger : goal.ghosts-load_first-J-Ledger
 ghosts-load_first-J-Ledger g a = record { name = a.blank.name; parts = a.blank.parts }
 
 abbrev pub ghosts-load_first-J-RunId : goal.ghosts-load_first-J-RunId
-ghosts-load_first-J-RunId g a = record {
-  files = a.common.now.files.now;
-  plan = plan_in a.common.now;
-  shelf = a.common.now.modules.now;
-}
+ghosts-load_first-J-RunId g a = let c = a.common.now in record { files = c.files.now; plan = plan_in c; shelf = c.modules.now }

@@ -1,4 +1,4 @@
-use Rattle.std.proofs.Common.{◌≡◌, ◌∙◌, ◌+◌, ap, fold, map, sym, subst, take}
+use Rattle.std.proofs.Common.{◌≡◌, ◌∙◌, ap, fold, sym, take}
 use Rattle.std.proofs.lemmas.List.Sums.{fold-append}
 use Rattle.star_outcome.specs.Homes.{seated}
 use Rattle.star_outcome.specs.Reaches.{shared_of}
@@ -11,9 +11,9 @@ loop-block-preserved c =
     let i = c.loop-block.block-index in
     let h = c.args.homes.now in
     let before = shared_of (take i bs) in
-    let same : c.as_slice.result.now ≡ block_stores c.block-item.result = c.as_slice.ensures.value ∙ ap (λ v. v.items) c.deref.ensures in
+    let same : c.stores.result.now ≡ block_stores c.block-item.result = c.stores.ensures ∙ c.deref.ensures in
     c.in_ok-seat_each.ensures
-    ∙ (ap (λ s. fold seated s c.as_slice.result.now) c.loop-block.invariant
+    ∙ (ap (λ s. fold seated s c.stores.result.now) c.loop-block.invariant
     ∙ (ap (λ rs. fold seated (fold seated h before) rs) same
     ∙ (sym (fold-append seated h before (block_stores c.block-item.result))
     ∙ ap (λ rs. fold seated h rs) (sym (shared_more bs i c.block-item.result c.loop-block-test.true c.block-item.is)))))

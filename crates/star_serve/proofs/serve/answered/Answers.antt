@@ -2,6 +2,7 @@ use Rattle.std.proofs.Common.{◌≡◌, ◌∙◌, ap, length, sym, subst}
 use Rattle.star_outcome.specs.GoodEnds.{AreGoodEndsOf}
 use Rattle.star_outcome.specs.Kept.{AreModulesOf}
 use Rattle.star_outcome.specs.Refusals.{AreRefusalsOf}
+use Rattle.star_reading.specs.Found.{IsReadOf}
 use Rattle.star_serve.proofs.WrittenTexts.{in_plan_of_same, lead_within, row_size}
 use Rattle.star_serve.proofs.serve.answered.Goals as goal
 
@@ -44,3 +45,8 @@ returns-clause-modules g c =
     let asked = c.args.job.now.asked.now in
     subst (λ r. AreModulesOf asked.files asked.roots.items asked.prelude c.args.options.now.steps r.kept) (sym c.in_ok-written.ensures.same)
     (subst (λ roots. AreModulesOf asked.files roots asked.prelude c.args.options.now.steps c.in-Ok.run'.kept) c.as_slice-roots.ensures.value c.in-Ok.ensures.modules)
+
+pub returns-clause-read : goal.returns-clause-read
+returns-clause-read g c =
+    let asked = c.args.job.now.asked.now in
+    subst (λ roots. IsReadOf asked.files roots asked.prelude c.run_in-outcome.new.reads.all.items) c.as_slice-roots.ensures.value c.in-Ok.ensures.read

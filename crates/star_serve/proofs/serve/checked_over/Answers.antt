@@ -1,5 +1,6 @@
 use Rattle.std.proofs.Common.{◌∙◌, subst, sym}
 use Rattle.star_bundle.specs.View.{asked_view}
+use Rattle.star_reading.proofs.Known.{none_known}
 use Rattle.star_report.specs.declared.wanted.Output.TheVariants.{Check}
 use Rattle.star_serve.specs.Serve.{IsOutputFor}
 use Rattle.star_serve.proofs.Streams.{went_well}
@@ -10,4 +11,9 @@ returns-clause-ok g c =
     let asked = asked_view c.args.job.now.asked.now in
     let steps = c.args.options.now.steps in
     let it = c.in-Ok.it in
-    (c.as_slice.result.now, went_well c.write_some.result (sym c.is_err.ensures.value ∙ c.if-is_err.false) c.write_some.ensures.takes, subst (λ text. IsOutputFor (Check c.args.only_roots) asked steps text it.all_ok) (sym c.as_slice.ensures.value) (c.in-Ok.ensures steps))
+    (c.as_slice.result.now, went_well c.write_some.result (sym c.is_err.ensures.value ∙ c.if-is_err.false) c.write_some.ensures.takes, subst (λ text. IsOutputFor (Check c.args.only_roots) asked steps text it.all_ok) (sym c.as_slice.ensures.value) (c.in-Ok.ensures.text steps))
+
+pub checked-requires-clause-reads : goal.checked-requires-clause-reads
+checked-requires-clause-reads g c =
+    let asked = c.args.job.now.asked.now in
+    λ lives within. none_known asked.files asked.prelude c.new-reads.result.all.items c.new-reads.ensures

@@ -2,6 +2,7 @@ use Rattle.std.proofs.Common.{◌≡◌, ◌<◌, ◌++◌, ℕ, [], All, ap, re
 use Rattle.std.specs.Prelude.{string_bytes}
 use Rattle.star_outcome.specs.Refusals.{AreRefusalsOf}
 use Rattle.star_outcome.proofs.RefusedLoads.{all_files, first_refused}
+use Rattle.star_reading.proofs.Known.{none_known}
 use Rattle.star_report.specs.Output.{InPlanOf, IsOutput, IsSaid}
 use Rattle.star_serve.specs.Stream.{Adds}
 use Rattle.star_bundle.specs.View.{asked_view}
@@ -64,3 +65,8 @@ returns-in-Check-clause-traced g c =
 
 pub returns-in-Check-clause-untraced : goal.returns-in-Check-clause-untraced
 returns-in-Check-clause-untraced g c = if_ok-map c.checked_over.result (λ ok h none off said. h none) c.checked_over.ensures.untold
+
+pub answered-requires-clause-reads : goal.answered-requires-clause-reads
+answered-requires-clause-reads g c =
+    let asked = c.args.job.now.asked.now in
+    λ lives within. none_known asked.files asked.prelude c.new-reads.result.all.items c.new-reads.ensures

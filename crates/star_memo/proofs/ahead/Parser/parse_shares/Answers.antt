@@ -7,4 +7,4 @@ pub map_indices-requires-send-X : goal.map_indices-requires-send-X
 map_indices-requires-send-X g c κs within = param_send 1 _ (arg_send _ no _ share_send)
 
 pub map_indices-requires-sync-F : goal.map_indices-requires-sync-F
-map_indices-requires-sync-F g c κs within = param_sync 3 _ (arg_sync _ no _ (parsers_sync _ _ _ _ _ _ c.type_bounds.sync-R _))
+map_indices-requires-sync-F g c κs within = param_sync 3 _ (arg_sync _ no _ (parsers_sync _ _ _ _ _ _ _ c.type_bounds.sync-R _))

@@ -1,5 +1,4 @@
-use Rattle.std.proofs.Common.{◌≡◌, sym, subst, ap, ◌∙◌}
-use Rattle.std.specs.Prelude.{Option}
+use Rattle.std.proofs.Common.{◌≡◌, subst}
 use Rattle.star_memo.specs.Outcomes.{AreMarkedOf, AreOutcomes}
 use Rattle.star_memo.specs.declared.outcomes.Terms.{Terms}
 use Rattle.star_memo.proofs.Labels.{same_files}

@@ -1,5 +1,3 @@
-use Rattle.std.proofs.Common.{◌≡◌, length}
-use Rattle.std.specs.Prelude.{vec_len}
 use Rattle.star_memo.specs.Outcomes.{AreStaying}
 use Rattle.star_memo.proofs.outcomes.Outcomes.staying.Given as goal
 

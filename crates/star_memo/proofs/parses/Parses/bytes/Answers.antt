@@ -1,6 +1,5 @@
-use Rattle.std.proofs.Common.{◌+◌, ◌≤◌, add-one, ap, arith, drop, length, rules}
-use Rattle.star_label.specs.Files.{text_at}
-use Rattle.star_memo.specs.Parses.{Has, kept_bytes}
+use Rattle.std.proofs.Common.{add-one, ap, arith, length}
+use Rattle.star_memo.specs.Parses.{Has}
 use Rattle.star_memo.proofs.Kept.{bytes_less, bytes_more}
 use Rattle.star_memo.proofs.parses.Parses.bytes.Goals as goal
 use Rattle.star_memo.proofs.parses.Parses.bytes.Goals.{then-has, else-has}

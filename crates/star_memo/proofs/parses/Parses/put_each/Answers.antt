@@ -2,7 +2,6 @@ use Rattle.std.proofs.Common.{◌≡◌, ◌∙◌, ℕ, subst, sym}
 use Rattle.std.proofs.lemmas.List.{map-id}
 use Rattle.std.proofs.lemmas.Iterator.Adapters.{YieldsList-from_vec}
 use Rattle.std.proofs.lemmas.Iterator.Consumers.{YieldsList-end}
-use Rattle.std.specs.Prelude.{All}
 use Rattle.star_label.specs.Files.{text_at}
 use Rattle.star_memo.specs.declared.parses.Parse.{Parse}
 use Rattle.star_memo.specs.Parses.{AreMade, IsParse}

@@ -1,40 +1,40 @@
-use Rattle.std.proofs.Common.{◌≡◌, ap, sym, ◌∙◌, subst}
+use Rattle.std.proofs.Common.{◌≡◌, inl, inr, refl, ap, sym, ◌∙◌, subst}
 use Rattle.star_plan.specs.Shelves.{Needs}
-use Rattle.star_outcome.specs.Gathered.{GivenView, HasStore, IsGathered}
+use Rattle.star_outcome.specs.Gathered.{GivenView, IsGathered, IsListed}
 use Rattle.star_outcome.specs.Reaches.{StoreRowView, row_of}
-use Rattle.star_outcome.proofs.Stores.{both_by, has_put, has_some, has_still, row_by, taken_none}
+use Rattle.star_outcome.proofs.Stores.{gathered_more, listed_front, listed_last}
+use Rattle.star_reading.proofs.Finds.{by_cases}
 use Rattle.star_outcome.proofs.reachable.ReachableStores.add.Goals as goal
 
-pub returns-then-is_some-clause-there : goal.returns-then-is_some-clause-there
-returns-then-is_some-clause-there g c =
-    let same : c.args.self.now.shelf ≡ c.self.inside.homes = sym (ap (λ (v : GivenView). v.shelf) c.self.view_is) in
-    subst (HasStore c.args.self.now.shelf) c.number-number.ensures
-    (subst (λ s. HasStore s c.number-number.result) (sym same) (has_some c.self.inside.homes c.number-number.result c.published.result c.published.ensures (sym c.is_some.ensures ∙ c.if-is_some.true)))
+pub returns-then-has-clause-there : goal.returns-then-has-clause-there
+returns-then-has-clause-there g c =
+    let row : row_of c.self.inside.reaches ≡ c.args.self.now.reaches = ap (λ (v : GivenView). v.reaches) c.self.view_is in
+    subst (λ rs. IsListed rs c.args.reach.now.number) row
+    (subst (IsListed (row_of c.self.inside.reaches)) c.number-number.ensures (c.self.invariant.listed c.number-number.result (c.has.ensures c.if-has.true)))
 
-pub invariant_of-self : goal.invariant_of-self
-invariant_of-self g c =
-    subst (λ (s : StoreRowView). IsGathered g.J.RunId.plan c.self.inside.file c.self.inside.homes (row_of s)) (sym c.in_err-push_again.ensures.refused) c.self.invariant
-
-pub invariant_of-self-in_err-add : goal.invariant_of-self-in_err-add
-invariant_of-self-in_err-add g c =
-    let file : c.args.self.now.file ≡ c.self.inside.file = sym (ap (λ (v : GivenView). v.file) c.self.view_is) in
-    row_by g.J.RunId.plan c.self.inside.file c.self.inside.homes c.add.new.self (row_of c.self.inside.reaches) (row_of c.push_again.new.self) c.args.reach.now c.in_err-add.ensures.refused c.in_ok-push_again.ensures.added c.self.invariant
-    (subst (λ n. Needs g.J.RunId.plan n c.args.reach.now.number) file c.requires.needed) c.requires.own
+pub invariant_of-self-in_err-push_again : goal.invariant_of-self-in_err-push_again
+invariant_of-self-in_err-push_again g c =
+    subst (λ (s : StoreRowView). IsGathered g.J.RunId.plan c.self.inside.file c.make_room.new.self (row_of s)) (sym c.in_err-push_again.ensures.refused)
+    (record {
+      needed = c.self.invariant.needed;
+      listed = λ k h. c.self.invariant.listed k ((c.in_ok-make_room.ensures.same k).0 h);
+    })
 
 pub invariant_of-self-2 : goal.invariant_of-self-2
 invariant_of-self-2 g c =
+    let plan = g.J.RunId.plan in
+    let reach = c.args.reach.now in
     let file : c.args.self.now.file ≡ c.self.inside.file = sym (ap (λ (v : GivenView). v.file) c.self.view_is) in
-    both_by g.J.RunId.plan c.self.inside.file c.self.inside.homes c.add.new.self (row_of c.self.inside.reaches) (row_of c.push_again.new.self) c.args.reach.now c.number-number.result c.store.result.now c.number-number.ensures c.store.ensures
-    c.in_ok-add.ensures.added c.in_ok-push_again.ensures.added c.self.invariant
-    (subst (λ n. Needs g.J.RunId.plan n c.args.reach.now.number) file c.requires.needed) c.requires.own
+    subst (IsGathered plan c.self.inside.file c.insert.new.self) (sym c.in_ok-push_again.ensures.added)
+    (gathered_more plan c.self.inside.file c.self.inside.numbers c.insert.new.self (row_of c.self.inside.reaches) reach
+    (λ k h. by_cases ((c.insert.ensures k).0 h) (λ e. inl (e ∙ c.number-number.ensures)) (λ old. inr ((c.in_ok-make_room.ensures.same k).0 old)))
+    c.self.invariant (subst (λ n. Needs plan n reach.number) file c.requires.needed) c.requires.own)
 
 pub returns-clause-stays : goal.returns-clause-stays
-returns-clause-stays g c =
-    let same : c.args.self.now.shelf ≡ c.self.inside.homes = sym (ap (λ (v : GivenView). v.shelf) c.self.view_is) in
-    λ k h. subst (λ s. HasStore s k) (sym c.in_ok-add.ensures.added) (has_still c.self.inside.homes c.number-number.result c.store.result.now k (subst (λ s. HasStore s k) same h))
+returns-clause-stays g c = λ k h.
+    let row : row_of c.self.inside.reaches ≡ c.args.self.now.reaches = ap (λ (v : GivenView). v.reaches) c.self.view_is in
+    subst (λ rs. IsListed rs k) (sym c.in_ok-push_again.ensures.added) (listed_front (row_of c.self.inside.reaches) c.args.reach.now k (subst (λ rs. IsListed rs k) (sym row) h))
 
 pub returns-clause-there : goal.returns-clause-there
 returns-clause-there g c =
-    subst (HasStore c.add.new.self) c.number-number.ensures
-    (subst (λ s. HasStore s c.number-number.result) (sym c.in_ok-add.ensures.added)
-    (has_put c.self.inside.homes c.number-number.result c.store.result.now (taken_none c.self.inside.homes c.number-number.result c.published.result c.published.ensures (sym c.is_some.ensures ∙ c.if-is_some.false))))
+    subst (λ rs. IsListed rs c.args.reach.now.number) (sym c.in_ok-push_again.ensures.added) (listed_last (row_of c.self.inside.reaches) c.args.reach.now c.args.reach.now.number refl)

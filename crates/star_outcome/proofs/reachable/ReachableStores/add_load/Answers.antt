@@ -9,6 +9,6 @@ add_row-requires g c =
 
 pub returns-clause-there : goal.returns-clause-there
 returns-clause-there g c = on_ok c.add_row.result
-    (λ all. all_there g.J.RunId.plan c.args.it.now.number (row_of c.deref.result.now.stores) c.add_row.new.self.shelf
+    (λ all. all_there g.J.RunId.plan c.args.it.now.number (row_of c.deref.result.now.stores) c.add_row.new.self.reaches
     (good_stores g.J.RunId.plan c.args.it.now.number c.args.it.now c.in-Good.body c.deref.result.now c.in-Good.is c.deref.ensures c.requires.good.0) all)
     c.add_row.ensures.there

@@ -1,8 +1,8 @@
-use Rattle.std.proofs.Common.{ℕ, sym, ◌∙◌, subst}
+use Rattle.std.proofs.Common.{sym, subst}
 use Rattle.std.specs.Prelude.{All}
 use Rattle.std.proofs.lemmas.List.Elements.{All-append}
 use Rattle.star_plan.specs.Shelves.{IsOwn, Needs}
-use Rattle.star_outcome.specs.Gathered.{AreNeeded, HasStore}
+use Rattle.star_outcome.specs.Gathered.{AreNeeded, IsListed}
 use Rattle.star_outcome.specs.Reaches.{ReachView}
 use Rattle.star_outcome.proofs.Stores.{back_of, front_of}
 use Rattle.star_outcome.proofs.reachable.ReachableStores.add_row.Goals as goal
@@ -20,7 +20,7 @@ add_each-requires g c =
 
 pub returns-clause-there : goal.returns-clause-there
 returns-clause-there g c =
-    let P : ReachView → Type 0 = λ r. HasStore c.add_each.new.self.shelf r.number in
+    let P : ReachView → Type 0 = λ r. IsListed c.add_each.new.self.reaches r.number in
     All-append P c.args.stores.now.base c.args.stores.now.more
     (subst (All P) c.blocks-2.ensures (λ i d lt. c.in_ok-add_each.ensures.stays _ (c.in_ok-add_blocks.ensures.there i d lt)))
     (subst (All P) c.more.ensures c.in_ok-add_each.ensures.there)

@@ -1,4 +1,3 @@
-use Rattle.std.proofs.Common.{◌≡◌}
 use Rattle.star_outcome.specs.Refusals.{AreRefusals}
 use Rattle.star_outcome.proofs.trace.Trace.all.Given as goal
 

@@ -7,8 +7,8 @@ use Rattle.star_reading.proofs.reading.Reader.read_all.Goals as goal
 pub loop-n-init : goal.loop-n-init
 loop-n-init g c = record { found = c.in_ok-found.ensures (option_copied c.args.self.now.prelude); ahead = c.in_ok-ahead.ensures }
 
-pub returns : goal.returns
-returns g c =
+pub returns-clause-all : goal.returns-clause-all
+returns-clause-all g c =
     let r = c.args.self.now in
     let f = c.loop-n.found in
     subst (λ rs. IsRowOf r.files.now (option_copied r.prelude) r.roots.now rs.items) (sym c.in_default.ensures.reads)

@@ -1,0 +1,8 @@
+use Rattle.std.proofs.Common.{rules}
+use Rattle.star_memo.proofs.ReadingsStay.{readings_stay}
+use Rattle.star_memo.proofs.readings.Readings.after.Goals as goal
+
+pub returns-clause-readings : goal.returns-clause-readings
+returns-clause-readings c =
+    readings_stay c.args.before.now c.args.files.now c.args.prelude c.args.self c.forget_changed.new.self (c.have_labels.ensures.labels c.if-not-have_labels.false) (c.has_prelude.ensures.text c.if-not-has_prelude.false) (search rules)
+    c.forget_changed.ensures.prelude c.forget_changed.ensures.left c.requires

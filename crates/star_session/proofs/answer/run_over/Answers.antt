@@ -1,0 +1,31 @@
+use Rattle.std.proofs.Common.{subst, sym, ◌∙◌}
+use Rattle.star_reading.proofs.Known.{known_again}
+use Rattle.star_memo.specs.Readings.{AreKnown}
+use Rattle.star_memo.proofs.Staying.{ends_of_now}
+use Rattle.star_session.proofs.Bodies.{left_in}
+use Rattle.star_session.proofs.answer.run_over.Goals as goal
+
+pub written_over-requires-clause-reads : goal.written_over-requires-clause-reads
+written_over-requires-clause-reads g c =
+    let asked = c.args.asked.now in
+    λ lives within. subst (λ p. AreKnown asked.files p c.args.readings.now.reads.all.items) c.requires.seen c.requires.readings.reads
+
+pub written_over-requires-clause-ends : goal.written_over-requires-clause-ends
+written_over-requires-clause-ends g c =
+    let asked = c.args.asked.now in
+    λ lives within. ends_of_now asked.files asked.roots.items asked.prelude c.args.options.now.steps c.args.ends.now c.requires.ends
+
+pub returns-clause-ends : goal.returns-clause-ends
+returns-clause-ends g c =
+    let asked = c.args.asked.now in
+    left_in asked.files asked.roots.items asked.prelude c.args.options.now.steps c.in_ok-finished.finished.ends.items c.len.ensures.ordered c.in_ok-finished.ensures.ends
+
+pub returns-clause-readings : goal.returns-clause-readings
+returns-clause-readings g c =
+    let asked = c.args.asked.now in
+    let before = c.written_over.new.reads.all.items in
+    let known = c.take_others.ensures asked.files asked.prelude (known_again asked.files asked.roots.items asked.prelude before c.in_ok-finished.ensures.read) c.in_ok-finished.ensures.others in
+    record {
+      reads = subst (λ p. AreKnown asked.files p c.take_others.new.self.all.items) (sym c.requires.seen) known;
+      parses = c.requires.readings.parses;
+    }

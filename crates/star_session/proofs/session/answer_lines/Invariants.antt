@@ -1,0 +1,14 @@
+use Rattle.std.proofs.Common.{◌≡◌}
+use Rattle.star_session.specs.Folders.{IsAnsweredIn}
+use Rattle.star_session.specs.Kept.{IsStanding}
+use Rattle.star_session.specs.Lines.{IsCut, ahead_of}
+use Rattle.star_session.specs.Session.{IsPart}
+use Rattle.star_session.proofs.session.answer_lines.Given as goal
+
+abbrev pub invariant-loop : goal.invariant-loop
+invariant-loop g l =
+    (goal.iterator-loop g).can_next l.iterator' × (goal.iterator-loop g).is_finite l.iterator'
+    × IsPart (IsAnsweredIn (g.F.Repo.says l.folder) l.settings.defaults) (g.R.Source.said l.initial.reader) (g.R.Source.said l.reader) (ahead_of l.initial.session.lines) (ahead_of l.session.lines)
+    (g.W.Sink.taken l.initial.writer) (g.W.Sink.taken l.writer) l.initial.session.standing.files l.session.standing.files
+    × IsStanding l.session.standing × IsCut l.session.lines
+    × (g.R.Source.failed l.reader ≡ g.R.Source.failed l.initial.reader) × (g.W.Sink.failed l.writer ≡ g.W.Sink.failed l.initial.writer)
