@@ -1,16 +1,24 @@
 -- The outcome of the run of a body, and its meaning in its world.
-use Rattle.std.specs.Prelude.{◌≡◌, ◌-◌, ℕ, IfOk, List, Result}
+use Rattle.std.specs.Prelude.{◌≡◌, ◌-◌, ℕ, IfOk, List, Option, Result}
+use Rattle.star_scope.specs.declared.loads.Load.{Load}
 use Rattle.star_tree.specs.declared.tree.Statement.{Statement}
 use Rattle.star_meaning.specs.Module.{local}
 use Rattle.star_meaning.specs.Program.{Setting}
-use Rattle.star_world.specs.World.{World}
+use Rattle.star_meaning.specs.Programs.{Files}
+use Rattle.star_world.specs.World.{World, world_of}
 use Rattle.star_module.specs.declared.module.Outcome.{Outcome}
 use Rattle.star_module.specs.declared.module.Outcome.TheVariants as outcome
 use Rattle.star_module.specs.Outcomes.{AreReady, IsOutcome as IsRunOutcome, semantics, run_by_names}
+use Rattle.star_outcome.specs.Homes.{shelf_of}
 use Rattle.star_outcome.specs.Paid.{HasPaid}
+use Rattle.star_outcome.specs.Reaches.{StoreRowView}
 use Rattle.star_plan.specs.Plan.{Plan}
 use Rattle.star_plan.specs.Results.{IsOutcome, Ran}
 use Rattle.star_plan.specs.Shelves.{IsOwn}
+
+-- the world of a file whose body runs over the stores of a row
+abbrev pub world_in : ℕ → StoreRowView → Files → List Load → Option ℕ → World
+world_in home reaches programs loads prelude = world_of home (shelf_of reaches) programs loads prelude
 
 -- if the world is ready, this is the meaning of a file with these statements
 abbrev pub MeansLocal : {E : Type 0} → World → ℕ → List Statement → Result Outcome E → Type 0

@@ -2,18 +2,16 @@
 
 ghost use Rattle.std.specs.Prelude.{◌≡◌, ◌<◌, ◌≤◌, Some, IfOk, IfSome, ℕ, length, map};
 ghost use Rattle.star_outcome.specs.Fits.{IsAsked};
-ghost use Rattle.star_host.specs.Bodies.{IsRan, IsRunOf, MeansLocal};
+ghost use Rattle.star_host.specs.Bodies.{IsRan, IsRunOf, MeansLocal, world_in};
 ghost use Rattle.star_host.specs.Worlds.{IsContext};
 ghost use Rattle.star_meaning.specs.Programs.{file_in, placed_file};
 ghost use Rattle.star_outcome.specs.Gathered.{AreNeeded, IsListed};
-ghost use Rattle.star_outcome.specs.Homes.{shelf_of};
 ghost use Rattle.star_outcome.specs.Reaches.{row_of};
 ghost use Rattle.star_plan.specs.Plan.{loads_of};
 ghost use Rattle.star_outcome.specs.Views.{AreGoodLoads, IsBody, IsEnd};
 ghost use Rattle.star_plan.specs.Shelves.{Needs};
 ghost use Rattle.star_reading.specs.Readings.{read_at};
 ghost use Rattle.star_reading.specs.declared.reading.Read.TheVariants as read;
-ghost use Rattle.star_world.specs.World.{world_of};
 
 use crate::common::{LoadContext, file_number};
 use crate::gate::Gate;
@@ -42,10 +40,12 @@ fn outcome_in<'s, 'r, 'p, 't>(
 ) -> Result<Outcome, AllocError>
     requires stands { file_in common.now.programs.now home ≡ Some (placed_file program.now) }
     requires steps { (1 ≤ common.now.steps) × (common.now.steps ≤ 100000000) }
-    ensures names { MeansLocal (world_of home (shelf_of reaches.now) common.now.programs.now
-        program.now.loads.items prelude) common.now.steps program.now.statements.now result }
-    ensures named { IsRunOf (world_of home (shelf_of reaches.now) common.now.programs.now
-        program.now.loads.items prelude) common.now.steps program.now.statements.now result }
+    ensures names { let c = common.now in MeansLocal
+        (world_in home reaches.now c.programs.now program.now.loads.items prelude)
+        c.steps program.now.statements.now result }
+    ensures named { let c = common.now in IsRunOf
+        (world_in home reaches.now c.programs.now program.now.loads.items prelude)
+        c.steps program.now.statements.now result }
 {
     let homes = reaches.homes(common.alloc)?;
     let world = World::new(home, &homes, common.programs, program.loads(), prelude);

@@ -18,6 +18,7 @@ use Rattle.star_needs.specs.Ends.{AreLoadsUnder, InEachPlan}
 use Rattle.star_memo.specs.Outcomes.{AreAlike, AreOutcomes, is_marked}
 use Rattle.star_memo.specs.Readings.{AreKnown}
 use Rattle.star_memo.specs.declared.lasting.Change.{Change}
+use Rattle.star_memo.specs.declared.outcomes.Terms.{Terms}
 
 -- ---- ends as they are now
 
@@ -31,6 +32,12 @@ pub record IsEndNow (files : List File) (prelude : Option ℕ) (steps n : ℕ) (
 abbrev pub AreEndsNow : List File → Option ℕ → ℕ → List (Option GoodEnd) → Type 0
 AreEndsNow files prelude steps all =
     (n : ℕ) (e : GoodEnd) → slice_get all n ≡ Some (Some e) → IsEndNow files prelude steps n e
+
+-- if two rows are outcomes of some files, so is a third
+abbrev pub AreJoined : List (Option GoodEnd) → List (Option GoodEnd) → List (Option GoodEnd) → Type 0
+AreJoined one other all =
+    (files : List File) (prelude : Option ℕ) (steps : ℕ) → AreOutcomes files prelude steps one
+    → AreOutcomes files prelude steps other → AreOutcomes files prelude steps all
 
 -- ---- what is shared
 
@@ -140,3 +147,12 @@ IsFilled n end before after =
 abbrev pub IsStaleOf : List (Option GoodEnd) → ℕ → GoodEnd → Type 0
 IsStaleOf ends n s =
     (e : GoodEnd) × (slice_get ends n ≡ Some (Some e)) × (s ≡ record e { is_stale = true })
+
+-- if a row has outcomes of files before a change, whose marked ends last, and another those of the files after it, then a
+-- third has ends of the files after it as they are now
+abbrev pub AreAddedTo : Terms → List Bool → List (Option GoodEnd) → List (Option GoodEnd) → List (Option GoodEnd) → Type 0
+AreAddedTo terms marks former ends all =
+    (before files : List File) → AreAlike before files terms.prelude
+    → AreOutcomes before terms.prelude terms.steps former → AreOutcomes files terms.prelude terms.steps ends
+    → AllLast before files terms.prelude terms.steps marks → HasPreludeMarked terms.prelude marks
+    → AreEndsNow files terms.prelude terms.steps all

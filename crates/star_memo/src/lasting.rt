@@ -6,14 +6,14 @@
 //! of the files that it needs. A run puts its body over the stores that these have now.
 
 ghost use Rattle.std.specs.Prelude.{◌≡◌, ◌<◌, ◌≤◌, ◌⊎◌, ℕ, true, All, IfOk, IfSome, List, Option, Some, length, slice_get, vec_len};
-ghost use Rattle.star_label.specs.Files.{File, text_at};
+ghost use Rattle.star_label.specs.Files.{text_at};
 ghost use Rattle.star_reading.specs.Found.{Within};
 ghost use Rattle.star_tree.specs.declared.tree.LoadedName.{LoadedName as NameView};
 ghost use Rattle.star_needs.specs.Ends.{AreLoadsUnder};
-ghost use Rattle.star_memo.specs.Lasting.{AllLast, AllLastOver, AreAllStores, AreEndsNow, AreShared, AreStoresOf};
+ghost use Rattle.star_memo.specs.Lasting.{AllLastOver, AreAddedTo, AreAllStores, AreJoined, AreShared, AreStoresOf};
 ghost use Rattle.star_memo.specs.Lasting.{HasPreludeMarked, IsChange, IsFilled, IsMarkedOrShared, IsShared, IsStaleOf};
 ghost use Rattle.star_memo.specs.Lasting.{LastsOver, LoadsIt, LoadsNow, SharesAcross, file_at};
-ghost use Rattle.star_memo.specs.Outcomes.{AreAlike, AreAmong, AreOutcomes, is_marked};
+ghost use Rattle.star_memo.specs.Outcomes.{AreAmong, is_marked};
 
 use crate::outcomes::{Outcomes, Terms, add_file, has_text, is_marked, take_end};
 use crate::same::Stores;
@@ -353,9 +353,7 @@ impl Outcomes {
     /// Adds the outcomes of files that were run, where none is known.
     pub fn add(&mut self, ends: Vec<Option<GoodEnd>>)
         ensures terms { self.new.terms ≡ self.old.terms }
-        ensures all { (files : List File) (prelude : Option ℕ) (steps : ℕ)
-            → AreOutcomes files prelude steps self.old.all.items → AreOutcomes files prelude steps ends.items
-            → AreOutcomes files prelude steps self.new.all.items }
+        ensures all { AreJoined self.old.all.items ends.items self.new.all.items }
     {
         let mut rest = ends;
         for n in 0..rest.len() {
@@ -367,11 +365,7 @@ impl Outcomes {
     /// Adds the ends of the marked files, where none is known. They are stale.
     pub fn add_lasting(&mut self, former: &mut Vec<Option<GoodEnd>>, marks: &[bool])
         ensures terms { self.new.terms ≡ self.old.terms }
-        ensures all { let terms = self.old.terms in (before files : List File) → AreAlike before files terms.prelude
-            → AreOutcomes before terms.prelude terms.steps former.old.items
-            → AreOutcomes files terms.prelude terms.steps self.old.all.items
-            → AllLast before files terms.prelude terms.steps marks.now → HasPreludeMarked terms.prelude marks.now
-            → AreEndsNow files terms.prelude terms.steps self.new.all.items }
+        ensures all { AreAddedTo self.old.terms marks.now former.old.items self.old.all.items self.new.all.items }
     {
         kept_results_stay();
         for n in 0..former.len() {

@@ -178,8 +178,8 @@ impl<'t> Readings<'t> {
         requires { AreReadings before.now self }
         ensures prelude { result.prelude ≡ prelude }
         ensures readings { AreReadings files.now result }
-        ensures stays { HaveLabels before.now files.now → self.entry.prelude ≡ prelude
-            → HasPrelude before.now files.now prelude → StayIn before.now files.now self.entry result }
+        ensures stays { let b = before.now in let f = files.now in HaveLabels b f → self.entry.prelude ≡ prelude
+            → HasPrelude b f prelude → StayIn b f self.entry result }
     {
         if self.prelude != prelude
             || !have_labels(before, files)

@@ -313,6 +313,7 @@ fn report_after<'t, H: Threads + Wait + Sync>(
         reached,
     } = reported;
     free_ends(rt, alloc, staying.former, loaders);
+    free_ends(rt, alloc, staying.outcomes.all, loaders);
     Ok(After {
         files: asked.files,
         parses: staying.parses,
