@@ -1,7 +1,7 @@
 //! Tests of the schedule: the file that a loader runs next.
 
 use star_checks::holds;
-use star_flow::{Flow, Graph, Schedule};
+use star_flow::{Flow, Graph, Importers, Schedule};
 use std::alloc::Global;
 use std::test::Fail;
 
@@ -48,7 +48,7 @@ fn a_file_is_handed_out_once_it_is_found(rt: HostRuntime) -> Result<(), Fail> {
     let alloc = rt.alloc();
     let mut schedule = Schedule::new(vec![in alloc; 1; 3]?, Vec::new(alloc));
     schedule.ended(&[0]);
-    let flow = Flow::new(Vec::new(alloc), schedule);
+    let flow = Flow::new(Importers::new(alloc), schedule);
     holds!(&rt; flow.take_after(&rt, None) == Some(0));
     holds!(&rt; flow.take_after(&rt, Some(&[1, 2, 1])) == Some(2));
     holds!(&rt; flow.take_after(&rt, None) == Some(1));

@@ -111,6 +111,7 @@ fn formatted(machine: &mut Machine, call: Call<'_>, format: &str) -> Result<Text
 /// next value), `{0}` (a value by its number) and `{name}`, and a brace for two. `BadValue` for another use of braces
 /// and for `{}` beside a number, `Index` for a place beyond all values, `Key` for a name that is not given.
 pub fn call_format(machine: &mut Machine, text: Value, call: &Call) -> Result<Value, EvalError>
+    // It is long since it names each argument of the definition.
     ensures { Refines (methods.call_format call.now.setting.now call.now.levels call.now.line
         (bytes_of (content call.now.setting.now machine.old text)) call.now.given.now machine.old)
         result machine.new }

@@ -117,6 +117,7 @@ fn call_on_text(
     text: Value,
     call: &Call,
 ) -> Result<Value, EvalError>
+    // It is long since it names each argument of the definition.
     ensures { Refines (and_then (want_text call.now.setting.now call.now.line text machine.old)
         (λ t. spec.on_text call.now.setting.now call.now.levels call.now.line method t call.now.given.now))
         result machine.new }

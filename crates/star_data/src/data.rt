@@ -148,6 +148,7 @@ fn write_cell<'a>(
 ) -> Result<bool, AllocError>
     requires path { StandsInEach (look_in stores.now) path.old.items value }
     requires cell { option_copied cell ≡ cell_of (look_in stores.now) value }
+    // It is long since the definition takes the stores twice.
     ensures data { IfOk result (λ b. Sends
         (cell_data (look_in stores.now) (data_of (look_in stores.now) levels) (option_copied cell.entry)) b
         out.old.tokens out.new.tokens) }
@@ -210,6 +211,7 @@ fn write_dict<'a>(
 ) -> Result<bool, AllocError>
     requires path { StandsInEach (look_in stores.now) path.old.items value }
     requires cell { cell_of (look_in stores.now) value ≡ Some (cell.Dict entries.now) }
+    // It is long since the definition takes the stores twice.
     ensures data { IfOk result (λ b. Sends
         (option_map object
         (entries_data (look_in stores.now) (data_of (look_in stores.now) levels) entries.now)) b
@@ -262,6 +264,7 @@ fn write_entries<'a>(
     out: &mut Writer,
 ) -> Result<bool, AllocError>
     requires { AllStandInEach (look_in stores.now) path.old.items (map (λ e. e.1) entries.now) }
+    // It is long since the definition takes the stores twice.
     ensures data { IfOk result (λ b. Sends
         (option_map object
         (entries_data (look_in stores.now) (data_of (look_in stores.now) levels) entries.now)) b
@@ -289,6 +292,7 @@ fn write_many<'a>(
     out: &mut Writer,
 ) -> Result<bool, AllocError>
     requires { AllStandInEach (look_in stores.now) path.old.items (map (λ e. e.1) entries.now) }
+    // It is long since the definition takes the stores twice.
     ensures data { IfOk result (λ b. Sends
         (option_map object
         (entries_data (look_in stores.now) (data_of (look_in stores.now) levels) entries.now)) b

@@ -4,6 +4,7 @@
 
 ghost use Rattle.std.specs.Prelude.{◌<◌};
 
+use crate::importers::Importers;
 use crate::schedule::{Next, Schedule};
 use std::sync::{Condvar, Mutex, Wait};
 
@@ -11,16 +12,15 @@ use std::sync::{Condvar, Mutex, Wait};
 /// hands out, and a file that it does not hand out is begun by whoever asks for it.
 #[derive(Drop)]
 pub struct Flow {
-    // For each file, the files that load it.
-    importers: Vec<Vec<usize>>,
+    importers: Importers,
     state: Mutex<Schedule>,
     // Notified when a file is ready, and at the end.
     changed: Condvar,
 }
 
 impl Flow {
-    /// The flow of files: for each, the files that load it, as often as they do.
-    pub fn new(importers: Vec<Vec<usize>>, schedule: Schedule) -> Flow {
+    /// The flow of files, by the files that load each.
+    pub fn new(importers: Importers, schedule: Schedule) -> Flow {
         Flow {
             importers,
             state: Mutex::new(schedule),
@@ -28,19 +28,11 @@ impl Flow {
         }
     }
 
-    // The files that load a file.
-    fn importers_of(&self, n: usize) -> &[usize] {
-        match self.importers.get(n) {
-            Some(importers) => importers.as_slice(),
-            None => &[],
-        }
-    }
-
     /// The next file for a loader, which has ended the one that it was given before. It waits while no file is ready
     /// and some run. `None` if no file is ready, and none runs.
     pub fn take<R: Wait>(&self, rt: &R, ended: Option<usize>) -> Option<usize> {
         match ended {
-            Some(n) => self.take_after(rt, Some(self.importers_of(n))),
+            Some(n) => self.take_after(rt, Some(self.importers.of(n))),
             None => self.take_after(rt, None),
         }
     }

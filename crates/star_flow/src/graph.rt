@@ -4,6 +4,7 @@ ghost use Rattle.std.specs.Prelude.{◌≡◌, ◌+◌, ◌<◌, ◌^◌, ◌-�
 ghost use Rattle.star_flow.specs.Schedules.{HasAll, IsReadyOf, loads_of};
 
 use crate::flow::Flow;
+use crate::importers::{Importers, Link};
 use crate::schedule::Schedule;
 use std::alloc::{AllocError, Global};
 use std::marker::Model;
@@ -11,20 +12,17 @@ use std::marker::Model;
 /// Files, and for each how many loads it has and which files load it. Contracts see the number of loads.
 #[derive(Drop)]
 pub struct Graph {
-    importers: Vec<Vec<usize>>,
+    links: Vec<Link>,
     missing: Vec<usize>,
     files: Vec<usize>,
 }
 
 impl Model for Graph {
-    ghost use Rattle.std.specs.Prelude.{◌≡◌, length};
     ghost use Rattle.star_flow.specs.Schedules.{GraphView};
 
     ghost Value = { GraphView };
 
     ghost view = { λ g. record { loads = g.missing.items; files = g.files.items } };
-
-    ghost invariant = { λ g. length g.importers.items ≡ length g.missing.items };
 }
 
 impl Graph {
@@ -32,12 +30,8 @@ impl Graph {
     pub fn new(alloc: Global, count: usize) -> Result<Graph, AllocError>
         ensures { IfOk result (λ g. g ≡ record { loads = replicate count 0; files = [] }) }
     {
-        let mut importers = Vec::with_capacity(alloc, count)?;
-        for _ in 0..count {
-            importers.push(Vec::new(alloc))?;
-        }
         Ok(Graph {
-            importers,
+            links: Vec::new(alloc),
             missing: vec![in alloc; 0; count]?,
             files: Vec::with_capacity(alloc, count)?,
         })
@@ -58,10 +52,13 @@ impl Graph {
         ensures loads { OnOk result (n < length self.old.loads → m < length self.old.loads
             → loads_of self.new n ≡ min (loads_of self.old n + 1) (2 ^ 64 - 1)) }
     {
-        if n >= self.missing.len() || m >= self.importers.len() {
+        if n >= self.missing.len() || m >= self.missing.len() {
             return Ok(());
         }
-        self.importers[m].push(n)?;
+        self.links.push(Link {
+            loaded: m,
+            importer: n,
+        })?;
         self.missing[n] = self.missing[n].saturating_add(1);
         Ok(())
     }
@@ -69,10 +66,11 @@ impl Graph {
     /// The flow of the files. Those that load nothing are ready.
     pub fn into_flow(self, alloc: Global) -> Result<Flow, AllocError> {
         let Graph {
-            importers,
+            links,
             missing,
             files,
         } = self;
+        let importers = Importers::by_links(alloc, missing.len(), links.as_slice())?;
         let ready = ready(alloc, &missing, &files)?;
         Ok(Flow::new(importers, Schedule::new(missing, ready)))
     }

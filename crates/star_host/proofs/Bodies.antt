@@ -1,6 +1,8 @@
 -- The run of a body over the stores of all files that it needs is the file's outcome.
 use Rattle.std.proofs.Common.{◌≡◌, ◌<◌, ◌-◌, ℕ, List, length, Result, Ok, Err, IfOk, Option, Some, refl, ap, sym, ◌∙◌, subst, arith}
-use Rattle.std.specs.Prelude.{slice_get}
+use Rattle.std.specs.Prelude.{String, Vec, slice_get}
+use Rattle.std.specs.Arc.{arc_value}
+use Rattle.std.specs.declared.alloc.Global.{Global}
 use Rattle.std.specs.Option.{option_map}
 use Rattle.std.specs.declared.alloc.AllocError.{AllocError}
 use Rattle.std.proofs.lemmas.List.{length-map}
@@ -11,7 +13,7 @@ use Rattle.star_scope.specs.declared.program.Program.{Program}
 use Rattle.star_store.specs.Store.{Published, Shelf, put_up}
 use Rattle.star_tree.specs.declared.tree.Statement.{Statement}
 use Rattle.star_meaning.specs.Local.{Trees, outlines}
-use Rattle.star_meaning.specs.Module.{Ended, Local, local, start}
+use Rattle.star_meaning.specs.Module.{Ended, Good as WentWell, Local, local, start}
 use Rattle.star_meaning.specs.Run as run
 use Rattle.star_meaning.specs.Places.{AllFit}
 use Rattle.star_meaning.specs.Program.{Setting}
@@ -29,6 +31,7 @@ use Rattle.star_plan.proofs.Needs.{good_files_have_outcomes, the_one_shelf}
 use Rattle.star_plan.proofs.Ready.{files_may_run}
 use Rattle.star_world.specs.World.{world_of}
 use Rattle.star_host.specs.Bodies.{IsOwnIn, IsPaidIn, IsRan}
+use Rattle.star_outcome.specs.Globals.{shown_texts}
 use Rattle.star_outcome.specs.Paid.{HasPaid}
 use Rattle.star_outcome.specs.Reaches.{row_of}
 use Rattle.star_reading.specs.Readings.{Row, read_at, reading_of, readings}
@@ -131,7 +134,8 @@ pub loads_in_row : (plan : Plan) (row : Row) (n : ℕ) (p : Program) → reading
 loads_in_row plan row n p is e = sym (loads_are plan row n is ∙ ap (λ o. loads_in (option_map reading_of o)) e)
 
 -- the result of a good run
-pub body_is : (plan : Plan) (n : ℕ) (o : Outcome) (frozen : Published) (left : ℕ) (b : Body) → o ≡ outcome.Good frozen b.shown b.lines left → b.paid ≡ plan.steps - left → IsRan plan n o → AreStores plan n (row_of b.stores) → IsBody plan n b
-body_is plan n o frozen left b e paid ran stores =
-    let r : IsRan plan n (outcome.Good frozen b.shown b.lines left) = subst (IsRan plan n) e ran in
-    record { shelf = put_up r.over.home frozen r.over.shelf; globals = frozen.globals; outcome = r.outcome; stores = stores; paid = subst (HasPaid plan n) (sym paid) r.paid }
+pub body_is : (plan : Plan) (n : ℕ) (o : Outcome) (frozen : Published) (globals : Vec (String Global × List ℕ) Global) (left : ℕ) (b : Body) → o ≡ outcome.Good frozen globals b.lines left → arc_value b.shown ≡ shown_texts globals.items → b.paid ≡ plan.steps - left → IsRan plan n o → AreStores plan n (row_of b.stores) → IsBody plan n b
+body_is plan n o frozen globals left b e shown paid ran stores =
+    let r : IsRan plan n (outcome.Good frozen globals b.lines left) = subst (IsRan plan n) e ran in
+    let ends : IsOutcome plan n (Ran (WentWell (put_up r.over.home frozen r.over.shelf) frozen.globals (arc_value b.shown) b.lines.items)) = subst (λ t. IsOutcome plan n (Ran (WentWell (put_up r.over.home frozen r.over.shelf) frozen.globals t b.lines.items))) (sym shown) r.outcome in
+    record { shelf = put_up r.over.home frozen r.over.shelf; globals = frozen.globals; outcome = ends; stores = stores; paid = subst (HasPaid plan n) (sym paid) r.paid }

@@ -21,6 +21,7 @@ use star_module::{Outcome, Remains, run_body};
 use star_outcome::module::{Body, Ended, Left, Module};
 use star_outcome::reachable::{gathered, stores_of};
 use star_outcome::run_id::RunId;
+use star_outcome::shown::Shown;
 use star_outcome::store_row::StoreRow;
 use star_scope::loads::Load;
 use star_scope::program::Program;
@@ -125,7 +126,7 @@ fn ended_of<J: RunId>(
             let stores = stores_of::<J>(alloc, home, frozen, reaches)?;
             let body = Body {
                 stores,
-                shown,
+                shown: Arc::new(alloc, Shown::new(alloc, shown)?)?,
                 lines,
                 paid: steps.saturating_sub(left),
             };

@@ -27,7 +27,7 @@ use Rattle.star_reading.specs.Readings.{IsPlaceOf, IsReadAs}
 use Rattle.star_reading.specs.declared.reading.Read.TheVariants as read
 use Rattle.star_outcome.specs.GoodEnds.{HasStoreOf, IsLasting}
 use Rattle.star_outcome.specs.Reaches.{ReachView, row_of}
-use Rattle.star_outcome.specs.Views.{AreStores, IsBody, shown_texts}
+use Rattle.star_outcome.specs.Views.{AreStores, IsBody}
 use Rattle.star_outcome.specs.declared.good_end.GoodEnd.{GoodEnd}
 use Rattle.star_outcome.specs.declared.module.Body.{Body}
 use Rattle.star_outcome.proofs.GoodEnds.{lasting_body}
@@ -76,23 +76,23 @@ pub record SharesBy (c : Change) (n m : ℕ) : Type 0 where
   pub own : AreStoresOf c m stores
   pub shared : AreShared stores program.loads.items program.statements.now
 
-module _ (c : Change) (is : IsChange c) (n m : ℕ) (text : text_at c.before.now n ≡ text_at c.files.now n) (load_is : LoadsNow c n m) (s : SharesBy c n m) (p q : Plan) (plan_p : IsPlanOf c.before.now p) (prelude_p : p.prelude ≡ c.terms.prelude) (steps_p : p.steps ≡ c.terms.steps) (at_p : IsReached p n) (plan_q : IsPlanOf c.files.now q) (prelude_q : q.prelude ≡ c.terms.prelude) (steps_q : q.steps ≡ c.terms.steps) (at_q : IsReached q n) where
+module _ (c : Change) (is : IsChange c) (n m : ℕ) (text : text_at c.compared.now.before n ≡ text_at c.compared.now.files n) (load_is : LoadsNow c n m) (s : SharesBy c n m) (p q : Plan) (plan_p : IsPlanOf c.compared.now.before p) (prelude_p : p.prelude ≡ c.terms.prelude) (steps_p : p.steps ≡ c.terms.steps) (at_p : IsReached p n) (plan_q : IsPlanOf c.compared.now.files q) (prelude_q : q.prelude ≡ c.terms.prelude) (steps_q : q.steps ≡ c.terms.steps) (at_q : IsReached q n) where
   same_read : read_of p n ≡ read_of q n
-  same_read = one_reading c.before.now c.files.now c.terms.prelude n p q is.alike text plan_p prelude_p plan_q prelude_q at_p at_q
+  same_read = one_reading c.compared.now.before c.compared.now.files c.terms.prelude n p q is.alike text plan_p prelude_p plan_q prelude_q at_p at_q
 
   read_in : read_of p n ≡ Some (Sound s.program.statements.now s.program.loads.items)
   read_in =
       let row = c.reads.now in
       let less = slice_get_within row n (Some (read.Program s.program)) s.there in
-      let there : IsPrelude c.files.now c.terms.prelude plan_q.prelude = subst (λ o. IsPrelude c.files.now o plan_q.prelude) prelude_q plan_q.prelude_is in
-      let place : IsPlaceOf c.files.now plan_q.prelude n (Some (read.Program s.program)) = subst (IsPlaceOf c.files.now plan_q.prelude n) (get_or_from_slice_get row n (Some (read.Program s.program)) None s.there) (is.reads plan_q.prelude there n None less) in
+      let there : IsPrelude c.compared.now.files c.terms.prelude plan_q.prelude = subst (λ o. IsPrelude c.compared.now.files o plan_q.prelude) prelude_q plan_q.prelude_is in
+      let place : IsPlaceOf c.compared.now.files plan_q.prelude n (Some (read.Program s.program)) = subst (IsPlaceOf c.compared.now.files plan_q.prelude n) (get_or_from_slice_get row n (Some (read.Program s.program)) None s.there) (is.reads plan_q.prelude there n None less) in
       let one = (plan_q.reached n).0 at_q in
-      let ordered = ordered_to c.before.now c.files.now is.alike.labels is.alike.ordered in
-      let same : one.0 ≡ Sound s.program.statements.now s.program.loads.items = one-reading c.files.now plan_q.prelude n ordered one.0 (Sound s.program.statements.now s.program.loads.items) (plan_q.right n one.0 one.1) (program_read c.files.now plan_q.prelude n s.program place) in
+      let ordered = ordered_to c.compared.now.before c.compared.now.files is.alike.labels is.alike.ordered in
+      let same : one.0 ≡ Sound s.program.statements.now s.program.loads.items = one-reading c.compared.now.files plan_q.prelude n ordered one.0 (Sound s.program.statements.now s.program.loads.items) (plan_q.right n one.0 one.1) (program_read c.compared.now.files plan_q.prelude n s.program place) in
       same_read ∙ (one.1 ∙ ap Some same)
 
   loads_q : Contains (loaded q n) m
-  loads_q = subst (λ ns. Contains ns m) (loads_in_plans c.files.now c.terms.prelude c.terms.steps n load_is.0 load_is.1 q plan_q prelude_q steps_q at_q) load_is.2
+  loads_q = subst (λ ns. Contains ns m) (loads_in_plans c.compared.now.files c.terms.prelude c.terms.steps n load_is.0 load_is.1 q plan_q prelude_q steps_q at_q) load_is.2
 
   loads_p : Contains (loaded p n) m
   loads_p = subst (λ r. Contains (map (λ (l : Load). l.file) (loads_in r)) m) (sym same_read) loads_q
@@ -116,7 +116,7 @@ module _ (c : Change) (is : IsChange c) (n m : ℕ) (text : text_at c.before.now
     as_data = λ name v l e. subst (λ k. same_data s.stores.before.cells s.stores.after.cells k most_levels v ≡ true) s.own.file ((name_shared name l).as_data v e);
   }
 
-pub shares_across : (c : Change) → IsChange c → (n m : ℕ) → text_at c.before.now n ≡ text_at c.files.now n → LoadsNow c n m → SharesBy c n m → SharesAcross c n m
+pub shares_across : (c : Change) → IsChange c → (n m : ℕ) → text_at c.compared.now.before n ≡ text_at c.compared.now.files n → LoadsNow c n m → SharesBy c n m → SharesAcross c n m
 shares_across c is n m text load_is s p plan_p prelude_p steps_p at_p q plan_q prelude_q steps_q at_q = shares_loads c is n m text load_is s p q plan_p prelude_p steps_p at_p plan_q prelude_q steps_q at_q
 
 -- ---- marked files
@@ -183,7 +183,7 @@ module _ (before files : List File) (prelude : Option ℕ) (steps : ℕ) (marks 
       let h = here_too n m x y in
       let st : Stays p q n = law before files p q is also (both (is_marked marks) p q) (agree n (in_both (is_marked marks) p q n h) body good) n h in
       let old : IsLasting p n body = lasting_body p n body good in
-      let other = st.outcome old.shelf old.globals (shown_texts body.shown.items) body.lines.items old.outcome in
+      let other = st.outcome old.shelf old.globals (arc_value body.shown) body.lines.items old.outcome in
       record {
         shelf = other.0;
         globals = old.globals;
@@ -209,13 +209,13 @@ ends_last law before files prelude steps marks alike last first n e s m o stale 
 -- ---- more marks
 
 -- the loads of an end after the change, or before it
-pub end_loads : (c : Change) → IsChange c → (n : ℕ) (e : GoodEnd) → text_at c.before.now n ≡ text_at c.files.now n → (slice_get c.ends.now n ≡ Some (Some e)) ⊎ (slice_get c.former.now n ≡ Some (Some e)) → AreLoadsUnder c.files.now c.terms.prelude n e.loads.items
+pub end_loads : (c : Change) → IsChange c → (n : ℕ) (e : GoodEnd) → text_at c.compared.now.before n ≡ text_at c.compared.now.files n → (slice_get c.ends.now n ≡ Some (Some e)) ⊎ (slice_get c.former.now n ≡ Some (Some e)) → AreLoadsUnder c.compared.now.files c.terms.prelude n e.loads.items
 end_loads c is n e text at = by_cases at
     (λ h. (is.ends n e h).loads)
-    (λ h. loads_too c.before.now c.files.now c.terms.prelude n e.loads.items is.alike text (is.former n e h).loads)
+    (λ h. loads_too c.compared.now.before c.compared.now.files c.terms.prelude n e.loads.items is.alike text (is.former n e h).loads)
 
 -- of these files each is marked, or shared by the file n: so its end lasts
-pub lasts_by : (c : Change) → IsChange c → (marks : List Bool) (n : ℕ) (loads : List ℕ) → text_at c.before.now n ≡ text_at c.files.now n → AreLoadsUnder c.files.now c.terms.prelude n loads → All (IsMarkedOrShared c marks n) loads → LastsOver c marks n
+pub lasts_by : (c : Change) → IsChange c → (marks : List Bool) (n : ℕ) (loads : List ℕ) → text_at c.compared.now.before n ≡ text_at c.compared.now.files n → AreLoadsUnder c.compared.now.files c.terms.prelude n loads → All (IsMarkedOrShared c marks n) loads → LastsOver c marks n
 lasts_by c is marks n loads text are all = record {
   text = text;
   loads = loads;
@@ -250,8 +250,8 @@ own_in files prelude steps n e store o has plan is at paid reached = own_in_row 
 pub stores_are : (c : Change) → IsChange c → (n : ℕ) (e f : GoodEnd) (one other : Published) → slice_get c.former.now n ≡ Some (Some e) → slice_get c.ends.now n ≡ Some (Some f) → HasStoreOf (row_of (arc_value e.body).stores) n one → HasStoreOf (row_of (arc_value f.body).stores) n other → AreStoresOf c n (record { file = n; before = one; after = other })
 stores_are c is n e f one other at too has also = record {
   file = refl;
-  before = own_in c.before.now c.terms.prelude c.terms.steps n e one (is.former n e at) has;
-  after = own_in c.files.now c.terms.prelude c.terms.steps n f other (is.ends n f too) also;
+  before = own_in c.compared.now.before c.terms.prelude c.terms.steps n e one (is.former n e at) has;
+  after = own_in c.compared.now.files c.terms.prelude c.terms.steps n f other (is.ends n f too) also;
 }
 
 pub one_more : (c : Change) (all : List (Option StoresView)) (n : ℕ) (o : Option StoresView) → AreAllStores c all → length all ≡ n → IfSome o (AreStoresOf c n) → AreAllStores c (all ++ o ∷ [])

@@ -100,16 +100,16 @@ HasPreludeMarked prelude marks =
 -- the files before and after a change are alike. The ends are outcomes of the files before and of the files after, and
 -- the readings are of the files after
 pub record IsChange (c : Change) : Type 0 where
-  pub alike : AreAlike c.before.now c.files.now c.terms.prelude
-  pub former : AreOutcomes c.before.now c.terms.prelude c.terms.steps c.former.now
-  pub ends : AreOutcomes c.files.now c.terms.prelude c.terms.steps c.ends.now
-  pub reads : AreKnown c.files.now c.terms.prelude c.reads.now
+  pub alike : AreAlike c.compared.now.before c.compared.now.files c.terms.prelude
+  pub former : AreOutcomes c.compared.now.before c.terms.prelude c.terms.steps c.former.now
+  pub ends : AreOutcomes c.compared.now.files c.terms.prelude c.terms.steps c.ends.now
+  pub reads : AreKnown c.compared.now.files c.terms.prelude c.reads.now
 
 -- these are the stores of the file n before and after the change: in each run that reaches it they are its own
 pub record AreStoresOf (c : Change) (n : ℕ) (s : StoresView) : Type 0 where
   pub file : s.file ≡ n
-  pub before : InEachPlan c.before.now c.terms.prelude c.terms.steps n (λ plan. IsOwn plan n s.before)
-  pub after : InEachPlan c.files.now c.terms.prelude c.terms.steps n (λ plan. IsOwn plan n s.after)
+  pub before : InEachPlan c.compared.now.before c.terms.prelude c.terms.steps n (λ plan. IsOwn plan n s.before)
+  pub after : InEachPlan c.compared.now.files c.terms.prelude c.terms.steps n (λ plan. IsOwn plan n s.after)
 
 -- so it is with whatever is there for a file, by its number
 abbrev pub AreAllStores : Change → List (Option StoresView) → Type 0
@@ -117,11 +117,11 @@ AreAllStores c all = (n : ℕ) (s : StoresView) → slice_get all n ≡ Some (So
 
 -- the file n loads m after the change
 abbrev pub LoadsNow : Change → ℕ → ℕ → Type 0
-LoadsNow c n m = (loads : List ℕ) × AreLoadsUnder c.files.now c.terms.prelude n loads × Contains loads m
+LoadsNow c n m = (loads : List ℕ) × AreLoadsUnder c.compared.now.files c.terms.prelude n loads × Contains loads m
 
 -- the file n shares what it loads of m in each run before and each run after the change
 abbrev pub SharesAcross : Change → ℕ → ℕ → Type 0
-SharesAcross c n m = SharesIn c.before.now c.files.now c.terms.prelude c.terms.steps n m
+SharesAcross c n m = SharesIn c.compared.now.before c.compared.now.files c.terms.prelude c.terms.steps n m
 
 -- the file m is marked, or the file n shares what it loads of m
 abbrev pub IsMarkedOrShared : Change → List Bool → ℕ → ℕ → Type 0
@@ -129,11 +129,11 @@ IsMarkedOrShared c marks n m = (is_marked marks m ≡ true) ⊎ SharesAcross c n
 
 -- the end of the file n lasts over the change, if those of the marked files do
 abbrev pub LastsOver : Change → List Bool → ℕ → Type 0
-LastsOver c marks n = Lasts c.before.now c.files.now c.terms.prelude c.terms.steps marks n
+LastsOver c marks n = Lasts c.compared.now.before c.compared.now.files c.terms.prelude c.terms.steps marks n
 
 -- so it is with all marked files
 abbrev pub AllLastOver : Change → List Bool → Type 0
-AllLastOver c marks = AllLast c.before.now c.files.now c.terms.prelude c.terms.steps marks
+AllLastOver c marks = AllLast c.compared.now.before c.compared.now.files c.terms.prelude c.terms.steps marks
 
 -- ---- ends that are added
 

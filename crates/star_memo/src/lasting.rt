@@ -15,10 +15,10 @@ ghost use Rattle.star_memo.specs.Lasting.{HasPreludeMarked, IsChange, IsFilled, 
 ghost use Rattle.star_memo.specs.Lasting.{LastsOver, LoadsIt, LoadsNow, SharesAcross, file_at};
 ghost use Rattle.star_memo.specs.Outcomes.{AreAmong, is_marked};
 
-use crate::outcomes::{Outcomes, Terms, add_file, has_text, is_marked, take_end};
+use crate::compared::Compared;
+use crate::outcomes::{Outcomes, Terms, add_file, is_marked, take_end};
 use crate::same::Stores;
 use star_flow::{Flow, Graph};
-use star_label::files::Files;
 use star_needs::kept_results_stay;
 use star_outcome::good_end::GoodEnd;
 use star_reading::reading::Read;
@@ -34,8 +34,7 @@ const MOST_CHANGED: usize = 64;
 /// Files before and after a change, with the outcomes of those before and of those after, and the readings after.
 #[derive(Clone, Copy)]
 pub struct Change<'a, 't> {
-    pub before: &'a Files,
-    pub files: &'a Files,
+    pub compared: &'a Compared<'a>,
     pub former: &'a [Option<GoodEnd>],
     pub ends: &'a [Option<GoodEnd>],
     pub reads: &'a [Option<Read<'t>>],
@@ -64,20 +63,19 @@ struct Former {
 /// The files with outcomes before a change, by whether their texts have changed. The error: an allocation failed.
 fn former_files(
     alloc: Global,
-    before: &Files,
-    files: &Files,
+    compared: &Compared<'_>,
     former: &[Option<GoodEnd>],
 ) -> Result<Former, AllocError>
-    ensures within { IfOk result (λ f. Within files.now f.changed.items) }
+    ensures within { IfOk result (λ f. Within compared.now.files f.changed.items) }
     ensures same { IfOk result (λ f. f.same ≤ length former.now) }
 {
     let mut changed = Vec::new(alloc);
     let mut same = 0;
     for n in 0..former.len() {
-        if former[n].is_none() || n >= files.len() {
+        if former[n].is_none() || n >= compared.count() {
             continue;
         }
-        if has_text(before, files, n) {
+        if compared.has_text(n) {
             same += 1;
         } else {
             changed.push(n)?;
@@ -90,14 +88,13 @@ fn former_files(
 /// The error: an allocation failed.
 pub fn first_to_run(
     alloc: Global,
-    before: &Files,
-    files: &Files,
+    compared: &Compared<'_>,
     former: &[Option<GoodEnd>],
 ) -> Result<Option<Vec<usize>>, AllocError>
     ensures some { IfOk result (λ r. IfSome r (λ _. 0 < length former.now)) }
-    ensures within { IfOk result (λ r. IfSome r (λ ns. Within files.now ns.items)) }
+    ensures within { IfOk result (λ r. IfSome r (λ ns. Within compared.now.files ns.items)) }
 {
-    let Former { changed, same } = former_files(alloc, before, files, former)?;
+    let Former { changed, same } = former_files(alloc, compared, former)?;
     if same == 0 || changed.is_empty() || changed.len() > MOST_CHANGED {
         return Ok(None);
     }
@@ -185,7 +182,7 @@ impl<'a, 't> Change<'a, 't> {
         requires { IsChange self.now }
         ensures { IfOk result (λ r. IfSome r (AreStoresOf self.now n)) }
     {
-        if n >= self.files.len() || has_text(self.before, self.files, n) {
+        if n >= self.compared.count() || self.compared.has_text(n) {
             return Ok(None);
         }
         let (Some(before), Some(after)) = (entry_at(self.former, n), entry_at(self.ends, n)) else {
@@ -214,7 +211,7 @@ impl<'a, 't> Change<'a, 't> {
     fn shares(&self, stores: &[Option<Stores<'a>>], n: usize, m: usize) -> bool
         requires change { IsChange self.now }
         requires stores { AreAllStores self.now stores.now }
-        requires text { text_at self.now.before.now n ≡ text_at self.now.files.now n }
+        requires text { text_at self.now.compared.now.before n ≡ text_at self.now.compared.now.files n }
         requires load { LoadsNow self.now n m }
         ensures { result ≡ true → SharesAcross self.now n m }
     {
@@ -237,8 +234,8 @@ impl<'a, 't> Change<'a, 't> {
     ) -> bool
         requires change { IsChange self.now }
         requires stores { AreAllStores self.now stores.now }
-        requires text { text_at self.now.before.now n ≡ text_at self.now.files.now n }
-        requires loads { AreLoadsUnder self.now.files.now self.now.terms.prelude n loads.now }
+        requires text { text_at self.now.compared.now.before n ≡ text_at self.now.compared.now.files n }
+        requires loads { AreLoadsUnder self.now.compared.now.files self.now.terms.prelude n loads.now }
         ensures { result ≡ true → All (IsMarkedOrShared self.now marks.now n) loads.now }
     {
         for m in loads {
@@ -255,7 +252,7 @@ impl<'a, 't> Change<'a, 't> {
         requires stores { AreAllStores self.now stores.now }
         ensures { result ≡ true → LastsOver self.now marks.now n }
     {
-        if !has_text(self.before, self.files, n) {
+        if !self.compared.has_text(n) {
             return false;
         }
         match self.end(n) {

@@ -9,6 +9,7 @@
 //!   it marks those that stay when the files change, and answers the others beside them.
 //! - `lasting` finds, among these others, the ends that stay though files that they need have changed: all that they
 //!   load of these is the same data as before, which `same` sees in the stores. Begin at `Change::lasting`.
+//! - `compared` has the files before and after a change, whose texts are compared once for all of these.
 //! - `release` frees many values by several threads.
 //!
 //! The promise is the contract of each function: each value that is kept for a file is the result of parsing its text,
@@ -17,6 +18,7 @@
 #![tactic(auto)]
 
 mod ahead;
+pub mod compared;
 pub mod lasting;
 pub mod outcomes;
 pub mod parses;

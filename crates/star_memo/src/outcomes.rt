@@ -11,9 +11,9 @@ ghost use Rattle.star_memo.specs.Outcomes.{IsStaying, is_marked};
 ghost use Rattle.star_outcome.specs.declared.good_end.GoodEnd.{GoodEnd as EndView};
 ghost use Rattle.star_memo.specs.Readings.{HasPrelude};
 
-use crate::release::free;
+use crate::compared::Compared;
+use crate::release::{VALUES_FOR_THREADS, free};
 use star_flow::{Flow, Graph};
-use star_label::files::Files;
 use star_outcome::good_end::GoodEnd;
 use std::alloc::{AllocError, Global};
 use std::sync::Wait;
@@ -34,39 +34,14 @@ pub struct Terms {
     pub steps: u32,
 }
 
-/// Whether two rows of files have the same labels.
-pub(crate) fn have_labels(before: &Files, files: &Files) -> bool
-    ensures labels { result ≡ true → HaveLabels before.now files.now }
-    ensures ordered { result ≡ true → IsOrdered before.now }
-    ensures same { HaveLabels before.now files.now → result ≡ true }
+/// Whether all files have the same texts before and after the change.
+fn have_texts(compared: &Compared<'_>) -> bool
+    ensures texts { let c = compared.now in
+        result ≡ true → (n : ℕ) → n < length c.files → text_at c.before n ≡ text_at c.files n }
+    ensures same { compared.now.before ≡ compared.now.files → result ≡ true }
 {
-    if before.len() != files.len() {
-        return false;
-    }
-    for n in 0..files.len() {
-        if before.label(n).text() != files.label(n).text() {
-            return false;
-        }
-    }
-    true
-}
-
-/// Whether a file has the same text in two rows of files.
-pub(crate) fn has_text(before: &Files, files: &Files, n: usize) -> bool
-    ensures text { result ≡ true → text_at before.now n ≡ text_at files.now n }
-    ensures same { n < length before.now → n < length files.now → text_at before.now n ≡ text_at files.now n
-        → result ≡ true }
-{
-    n < before.len() && n < files.len() && before.text(n) == files.text(n)
-}
-
-/// Whether two rows of files, which are as many, have the same texts.
-fn have_texts(before: &Files, files: &Files) -> bool
-    ensures texts { result ≡ true → (n : ℕ) → n < length files.now → text_at before.now n ≡ text_at files.now n }
-    ensures same { before.now ≡ files.now → result ≡ true }
-{
-    for n in 0..files.len() {
-        if !has_text(before, files, n) {
+    for n in 0..compared.count() {
+        if !compared.has_text(n) {
             return false;
         }
     }
@@ -74,12 +49,14 @@ fn have_texts(before: &Files, files: &Files) -> bool
 }
 
 /// Whether the prelude, if there is one, has the same text.
-pub(crate) fn has_prelude(before: &Files, files: &Files, prelude: Option<usize>) -> bool
-    ensures text { result ≡ true → (q : ℕ) → prelude ≡ Some q → text_at before.now q ≡ text_at files.now q }
-    ensures same { HaveLabels before.now files.now → HasPrelude before.now files.now prelude → result ≡ true }
+pub(crate) fn has_prelude(compared: &Compared<'_>, prelude: Option<usize>) -> bool
+    ensures text { let c = compared.now in
+        result ≡ true → (q : ℕ) → prelude ≡ Some q → text_at c.before q ≡ text_at c.files q }
+    ensures same { let c = compared.now in
+        HaveLabels c.before c.files → HasPrelude c.before c.files prelude → result ≡ true }
 {
     match prelude {
-        Some(n) => has_text(before, files, n),
+        Some(n) => compared.has_text(n),
         None => true,
     }
 }
@@ -162,10 +139,10 @@ impl Outcomes {
     }
 
     /// Whether the outcome of a file stays: its text is the same, and the outcomes of all that it loads stay.
-    fn stays(&self, before: &Files, files: &Files, marks: &[bool], n: usize) -> bool
-        ensures { result ≡ true → IsStaying before.now files.now self.now.all.items marks.now n }
+    fn stays(&self, compared: &Compared<'_>, marks: &[bool], n: usize) -> bool
+        ensures { let c = compared.now in result ≡ true → IsStaying c.before c.files self.now.all.items marks.now n }
     {
-        if !has_text(before, files, n) {
+        if !compared.has_text(n) {
             return false;
         }
         match self.all.get(n) {
@@ -175,14 +152,14 @@ impl Outcomes {
     }
 
     /// Marks a file if its outcome stays.
-    fn mark(&self, before: &Files, files: &Files, marks: &mut Vec<bool>, n: usize)
-        requires { AreStaying before.now files.now self.now.all.items marks.old.items }
-        ensures { AreStaying before.now files.now self.now.all.items marks.new.items }
+    fn mark(&self, compared: &Compared<'_>, marks: &mut Vec<bool>, n: usize)
+        requires { AreStaying compared.now.before compared.now.files self.now.all.items marks.old.items }
+        ensures { AreStaying compared.now.before compared.now.files self.now.all.items marks.new.items }
     {
         if n >= marks.len() {
             return;
         }
-        if self.stays(before, files, marks, n) {
+        if self.stays(compared, marks, n) {
             marks[n] = true;
         }
     }
@@ -192,10 +169,10 @@ impl Outcomes {
         &self,
         rt: &R,
         alloc: Global,
-        before: &Files,
-        files: &Files,
+        compared: &Compared<'_>,
     ) -> Result<Vec<bool>, AllocError>
-        ensures { IfOk result (λ marks. AreStaying before.now files.now self.now.all.items marks.items) }
+        ensures { let c = compared.now in
+            IfOk result (λ marks. AreStaying c.before c.files self.now.all.items marks.items) }
     {
         let flow = self.flow(alloc)?;
         let mut marks = vec![in alloc; false; self.all.len()]?;
@@ -204,7 +181,7 @@ impl Outcomes {
             let Some(n) = flow.take(rt, ended) else {
                 return Ok(marks);
             };
-            self.mark(before, files, &mut marks, n);
+            self.mark(compared, &mut marks, n);
             ended = Some(n);
         }
         Ok(marks)
@@ -229,19 +206,19 @@ impl Outcomes {
     }
 
     /// Whether the files have the same labels, under the same terms, with the same text of the prelude.
-    fn is_for(&self, before: &Files, files: &Files, terms: Terms) -> bool
+    fn is_for(&self, compared: &Compared<'_>, terms: Terms) -> bool
         ensures terms { result ≡ true → self.now.terms ≡ terms }
-        ensures labels { result ≡ true → HaveLabels before.now files.now }
-        ensures ordered { result ≡ true → IsOrdered before.now }
-        ensures prelude { result ≡ true
-            → (q : ℕ) → terms.prelude ≡ Some q → text_at before.now q ≡ text_at files.now q }
-        ensures same { before.now ≡ files.now → self.now.terms ≡ terms
-            → IfSome terms.prelude (λ q. q < length files.now) → result ≡ true }
+        ensures labels { result ≡ true → HaveLabels compared.now.before compared.now.files }
+        ensures ordered { result ≡ true → IsOrdered compared.now.before }
+        ensures prelude { let c = compared.now in result ≡ true
+            → (q : ℕ) → terms.prelude ≡ Some q → text_at c.before q ≡ text_at c.files q }
+        ensures same { compared.now.before ≡ compared.now.files → self.now.terms ≡ terms
+            → IfSome terms.prelude (λ q. q < length compared.now.files) → result ≡ true }
     {
-        if self.terms != terms || !have_labels(before, files) {
+        if self.terms != terms || !compared.has_same_labels() {
             return false;
         }
-        has_prelude(before, files, terms.prelude)
+        has_prelude(compared, terms.prelude)
     }
 
     /// The outcomes that stay if files take the place of those before, under these terms: all, if these are the same
@@ -251,35 +228,35 @@ impl Outcomes {
         self,
         rt: &R,
         alloc: Global,
-        before: &Files,
-        files: &Files,
+        compared: &Compared<'_>,
         terms: Terms,
         threads: usize,
     ) -> Result<(Outcomes, Vec<Option<GoodEnd>>), AllocError>
-        requires outcomes { AreOutcomes before.now self.terms.prelude self.terms.steps self.all.items }
+        requires outcomes { AreOutcomes compared.now.before self.terms.prelude self.terms.steps self.all.items }
         requires threads { 1 ≤ threads }
         ensures terms { IfOk result (λ os. os.0.terms ≡ terms) }
-        ensures all { IfOk result (λ os. AreOutcomes files.now terms.prelude terms.steps os.0.all.items) }
-        ensures others { IfOk result (λ os. AreOutcomes before.now terms.prelude terms.steps os.1.items) }
-        ensures alike { IfOk result (λ os. 0 < length os.1.items → AreAlike before.now files.now terms.prelude) }
-        ensures same { IfOk result (λ os. before.now ≡ files.now → self.terms ≡ terms
-            → IfSome terms.prelude (λ q. q < length files.now) → os.0.all ≡ self.all) }
+        ensures all { IfOk result (λ os. AreOutcomes compared.now.files terms.prelude terms.steps os.0.all.items) }
+        ensures others { IfOk result (λ os. AreOutcomes compared.now.before terms.prelude terms.steps os.1.items) }
+        ensures alike { IfOk result (λ os.
+            0 < length os.1.items → AreAlike compared.now.before compared.now.files terms.prelude) }
+        ensures same { IfOk result (λ os. compared.now.before ≡ compared.now.files → self.terms ≡ terms
+            → IfSome terms.prelude (λ q. q < length compared.now.files) → os.0.all ≡ self.all) }
     {
-        if !self.is_for(before, files, terms) {
+        if !self.is_for(compared, terms) {
             free(rt, alloc, self.all, threads);
             return Ok((Outcomes::new(alloc, terms), Vec::new(alloc)));
         }
-        if have_texts(before, files) {
+        if have_texts(compared) {
             return Ok((self, Vec::new(alloc)));
         }
-        let marks = self.staying(rt, alloc, before, files)?;
+        let marks = self.staying(rt, alloc, compared)?;
         let mut outcomes = self;
         let others = outcomes.take_others(alloc, &marks)?;
         Ok((outcomes, others))
     }
 }
 
-/// Frees ends of files, by up to `threads` threads.
+/// Frees ends of files, by up to `threads` threads if there are many.
 pub fn free_ends<R: Threads + Sync>(
     rt: &R,
     alloc: Global,
@@ -288,5 +265,11 @@ pub fn free_ends<R: Threads + Sync>(
 )
     requires { 1 ≤ threads }
 {
+    let there = ends.iter().filter(|end| end.is_some()).count();
+    let threads = if there < VALUES_FOR_THREADS {
+        1
+    } else {
+        threads
+    };
     free(rt, alloc, ends, threads);
 }

@@ -7,6 +7,7 @@ ghost use Rattle.star_memo.specs.Parses.{AreKept, AreMade, AreSharesMade, Has, I
 ghost use Rattle.star_reading.specs.Parsed.{AreParsesOf, IsParsed};
 
 use crate::ahead::{Made, Parser};
+use crate::compared::Compared;
 use star_label::files::Files;
 use star_lex::token::SyntaxFault;
 use star_parser::parse;
@@ -64,19 +65,6 @@ pub(crate) fn parse_of(alloc: Global, text: &str) -> Result<Parse, AllocError>
     }
 }
 
-/// The number that the label of a file had before. Most labels keep theirs, and need no search.
-fn number_before(before: &Files, files: &Files, n: usize) -> Option<usize>
-    requires { n < length files.now }
-    ensures found { IfSome result (λ m. (m < length before.now) × (label_at before.now m ≡ label_at files.now n)) }
-    ensures each { (m : ℕ) → m < length before.now → label_at before.now m ≡ label_at files.now n → result ≡ Some m }
-{
-    let label = files.label(n);
-    if n < before.len() && before.label(n).text() == label.text() {
-        return Some(n);
-    }
-    before.find(label)
-}
-
 impl Kept {
     /// A result, to be kept. No request has reached its file yet. The error: an allocation failed.
     fn new(alloc: Global, parse: Parse) -> Result<Kept, AllocError>
@@ -109,14 +97,15 @@ impl Parses {
     }
 
     /// The kept result for a file that has the label and the text that it had before.
-    fn find(&self, before: &Files, files: &Files, n: usize) -> Option<&Kept>
-        requires kept { AreKept before.now self.now.all.items }
-        requires file { n < length files.now }
-        ensures parse { IfSome result (λ k. IsParse (text_at files.now n) (arc_value k.now.parse)) }
-        ensures each { (m : ℕ) → IsSameFile before.now m files.now n → Has self.now.all.items m → IsSome result }
+    fn find(&self, compared: &Compared<'_>, n: usize) -> Option<&Kept>
+        requires kept { AreKept compared.now.before self.now.all.items }
+        requires file { n < length compared.now.files }
+        ensures parse { IfSome result (λ k. IsParse (text_at compared.now.files n) (arc_value k.now.parse)) }
+        ensures each { (m : ℕ) → IsSameFile compared.now.before m compared.now.files n → Has self.now.all.items m
+            → IsSome result }
     {
-        let m = number_before(before, files, n)?;
-        if m < self.all.len() && before.text(m) == files.text(n) {
+        let m = compared.number_before(n)?;
+        if m < self.all.len() && compared.has_text_of(m, n) {
             return self.all[m].as_ref();
         }
         None
@@ -124,14 +113,14 @@ impl Parses {
 
     /// A copy of the entry for a file that has the label and the text that it had before. It shares the result. The
     /// error: an allocation failed.
-    fn staying(&self, before: &Files, files: &Files, n: usize) -> Result<Option<Kept>, AllocError>
-        requires kept { AreKept before.now self.now.all.items }
-        requires file { n < length files.now }
-        ensures kept { IfOk result (IsKept (text_at files.now n)) }
-        ensures each { IfOk result (λ o. (m : ℕ) → IsSameFile before.now m files.now n → Has self.now.all.items m
-            → IsSome o) }
+    fn staying(&self, compared: &Compared<'_>, n: usize) -> Result<Option<Kept>, AllocError>
+        requires kept { AreKept compared.now.before self.now.all.items }
+        requires file { n < length compared.now.files }
+        ensures kept { IfOk result (IsKept (text_at compared.now.files n)) }
+        ensures each { IfOk result (λ o. (m : ℕ) → IsSameFile compared.now.before m compared.now.files n
+            → Has self.now.all.items m → IsSome o) }
     {
-        match self.find(before, files, n) {
+        match self.find(compared, n) {
             Some(kept) => Ok(Some(kept.again()?)),
             None => Ok(None),
         }
@@ -139,16 +128,16 @@ impl Parses {
 
     /// The results that stay if files take the place of the files before: the result of each text that its label had
     /// before. The error: an allocation failed.
-    pub fn after(&self, alloc: Global, before: &Files, files: &Files) -> Result<Parses, AllocError>
-        requires { AreKept before.now self.now.all.items }
-        ensures kept { IfOk result (λ ps. AreKept files.now ps.all.items) }
-        ensures count { IfOk result (λ ps. vec_len ps.all ≡ length files.now) }
-        ensures stays { IfOk result (λ ps. (m n : ℕ) → n < length files.now → IsSameFile before.now m files.now n
-            → Has self.now.all.items m → Has ps.all.items n) }
+    pub fn after(&self, alloc: Global, compared: &Compared<'_>) -> Result<Parses, AllocError>
+        requires { AreKept compared.now.before self.now.all.items }
+        ensures kept { IfOk result (λ ps. AreKept compared.now.files ps.all.items) }
+        ensures count { IfOk result (λ ps. vec_len ps.all ≡ length compared.now.files) }
+        ensures stays { IfOk result (λ ps. (m n : ℕ) → n < length compared.now.files
+            → IsSameFile compared.now.before m compared.now.files n → Has self.now.all.items m → Has ps.all.items n) }
     {
-        let mut all = Vec::with_capacity(alloc, files.len())?;
-        for n in 0..files.len() {
-            all.push(self.staying(before, files, n)?)?;
+        let mut all = Vec::with_capacity(alloc, compared.count())?;
+        for n in 0..compared.count() {
+            all.push(self.staying(compared, n)?)?;
         }
         Ok(Parses { all })
     }

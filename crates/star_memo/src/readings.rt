@@ -11,7 +11,8 @@ ghost use Rattle.star_memo.specs.Outcomes.{HaveLabels};
 ghost use Rattle.star_memo.specs.Readings.{AreReadings, HasPrelude, StayIn};
 ghost use Rattle.star_reading.specs.Parsed.{AreParsesOf, IsParsed};
 
-use crate::outcomes::{has_prelude, has_text, have_labels};
+use crate::compared::Compared;
+use crate::outcomes::has_prelude;
 use crate::parses::{Kept, Parse, Parses};
 use star_label::files::Files;
 use star_reading::parses::Parsed;
@@ -171,35 +172,34 @@ impl<'t> Readings<'t> {
     pub fn after(
         self,
         alloc: Global,
-        before: &Files,
-        files: &Files,
+        compared: &Compared<'_>,
         prelude: Option<usize>,
     ) -> Readings<'t>
-        requires { AreReadings before.now self }
+        requires { AreReadings compared.now.before self }
         ensures prelude { result.prelude ≡ prelude }
-        ensures readings { AreReadings files.now result }
-        ensures stays { let b = before.now in let f = files.now in HaveLabels b f → self.entry.prelude ≡ prelude
-            → HasPrelude b f prelude → StayIn b f self.entry result }
+        ensures readings { AreReadings compared.now.files result }
+        ensures stays { let b = compared.now.before in let f = compared.now.files in HaveLabels b f
+            → self.entry.prelude ≡ prelude → HasPrelude b f prelude → StayIn b f self.entry result }
     {
         if self.prelude != prelude
-            || !have_labels(before, files)
-            || !has_prelude(before, files, prelude)
+            || !compared.has_same_labels()
+            || !has_prelude(compared, prelude)
         {
             return Readings::new(alloc, prelude);
         }
         let mut readings = self;
-        readings.forget_changed(before, files);
+        readings.forget_changed(compared);
         readings
     }
 
     /// Takes the readings of files that have another text now out.
-    fn forget_changed(&mut self, before: &Files, files: &Files)
-        requires { HaveLabels before.now files.now }
+    fn forget_changed(&mut self, compared: &Compared<'_>)
+        requires { HaveLabels compared.now.before compared.now.files }
         ensures prelude { self.new.prelude ≡ self.old.prelude }
-        ensures left { StayIn before.now files.now self.old self.new }
+        ensures left { StayIn compared.now.before compared.now.files self.old self.new }
     {
-        for n in 0..files.len() {
-            if !has_text(before, files, n) {
+        for n in 0..compared.count() {
+            if !compared.has_text(n) {
                 forget(&mut self.reads.all, n);
                 forget(&mut self.parses, n);
             }

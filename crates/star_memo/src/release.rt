@@ -1,29 +1,36 @@
 //! Freeing many values by several threads.
 
-ghost use Rattle.std.specs.Prelude.{◌≤◌};
+ghost use Rattle.std.specs.Prelude.{◌≡◌, ◌≤◌, IfOk, vec_len};
 
 use std::alloc::{AllocError, Global};
 use std::thread;
 use std::thread::Threads;
 
 /// Below this, one thread is faster than starting others.
-const VALUES_FOR_THREADS: usize = 256;
+pub(crate) const VALUES_FOR_THREADS: usize = 256;
 
-/// Deals values out to some rows, one after another. The error: an allocation failed.
+/// Empty rows, each with room for `size` values. The error: an allocation failed.
+fn empty_rows<T: Drop>(alloc: Global, rows: usize, size: usize) -> Result<Vec<Vec<T>>, AllocError>
+    ensures { IfOk result (λ all. vec_len all ≡ rows) }
+{
+    let mut all = Vec::with_capacity(alloc, rows)?;
+    for _ in 0..rows {
+        all.push(Vec::with_capacity(alloc, size)?)?;
+    }
+    Ok(all)
+}
+
+/// Deals values out to some rows, one to each in turn: neighbours, which share much, are freed at about the same time.
+/// The error: an allocation failed.
 fn dealt<T: Drop>(alloc: Global, values: Vec<T>, rows: usize) -> Result<Vec<Vec<T>>, AllocError>
     requires { 1 ≤ rows }
 {
-    let size = values.len() / rows + 1;
-    let mut dealt = Vec::with_capacity(alloc, rows)?;
-    let mut row = Vec::with_capacity(alloc, size)?;
+    let mut dealt = empty_rows(alloc, rows, values.len() / rows + 1)?;
+    let mut next = 0;
     for value in values {
-        if row.len() >= size {
-            dealt.push(row)?;
-            row = Vec::with_capacity(alloc, size)?;
-        }
-        row.push(value)?;
+        dealt[next].push(value)?;
+        next = if next + 1 < dealt.len() { next + 1 } else { 0 };
     }
-    dealt.push(row)?;
     Ok(dealt)
 }
 

@@ -97,6 +97,7 @@ fn want_cuts(
 /// `split(sep, [n])`: the bytes are paid; then new strings of the parts between cuts at `sep`, at most `n` of them, in
 /// a new list. `BadType` for arguments of other types, `BadValue` for an empty `sep`.
 pub fn call_split(machine: &mut Machine, text: Value, call: &Call) -> Result<Value, EvalError>
+    // It is long since it names each argument of the definition.
     ensures { Refines (spec.call_split call.now.setting.now call.now.line
         (bytes_of (content call.now.setting.now machine.old text)) call.now.given.now machine.old) result machine.new }
 {
@@ -140,6 +141,7 @@ fn replaced(
 
 /// Two or three values. `Args` for fewer or more, and for a keyword argument.
 fn two_or_three(machine: &Machine, call: &Call) -> Result<(Value, Value, Option<Value>), EvalError>
+    // It is long since it names each argument of the definition.
     ensures { RefinesBy (λ r. record { old = r.0; new = r.1; cuts = r.2 })
         (and_then (positional call.now.line call.now.given.now machine.now) (spec.two_or_three call.now.line))
         result machine.now }
@@ -154,6 +156,7 @@ fn two_or_three(machine: &Machine, call: &Call) -> Result<(Value, Value, Option<
 /// `replace(old, new, [n])`: the bytes are paid, then a new string with `new` in the place of each `old`, of `n` at
 /// most. `BadType` for arguments of other types, `BadValue` for an empty `old`.
 pub fn call_replace(machine: &mut Machine, text: Value, call: &Call) -> Result<Value, EvalError>
+    // It is long since it names each argument of the definition.
     ensures { Refines (spec.call_replace call.now.setting.now call.now.line
         (bytes_of (content call.now.setting.now machine.old text)) call.now.given.now machine.old) result machine.new }
 {

@@ -77,6 +77,7 @@ pub fn call_case(
     text: Value,
     call: &Call,
 ) -> Result<Value, EvalError>
+    // It is long since it names each argument of the definition.
     ensures { Refines (spec.call_case call.now.line (in_case case)
         (bytes_of (content call.now.setting.now machine.old text)) call.now.given.now machine.old) result machine.new }
 {
@@ -91,6 +92,7 @@ fn one_to_three(
     machine: &Machine,
     call: &Call,
 ) -> Result<(Value, Option<Value>, Option<Value>), EvalError>
+    // It is long since it names each argument of the definition.
     ensures { RefinesBy (λ r. record { what = r.0; from = r.1; to = r.2 })
         (and_then (positional call.now.line call.now.given.now machine.now) (spec.one_to_three call.now.line))
         result machine.now }
@@ -145,6 +147,7 @@ fn place_in(
 /// `find(t, [a, [b]])`: the least place of `t` between `a` and `b`, which are ends as in a slice, else -1. `BadType`
 /// for arguments of other types.
 pub fn call_find(machine: &mut Machine, text: Value, call: &Call) -> Result<Value, EvalError>
+    // It is long since it names each argument of the definition.
     ensures { Refines (spec.call_find call.now.setting.now call.now.line
         (bytes_of (content call.now.setting.now machine.old text)) call.now.given.now machine.old) result machine.new }
 {
@@ -278,6 +281,7 @@ pub fn call_edge(
     text: Value,
     call: &Call,
 ) -> Result<Value, EvalError>
+    // It is long since it names each argument of the definition.
     ensures { Refines (spec.call_edge call.now.setting.now call.now.line (at_edge edge)
         (bytes_of (content call.now.setting.now machine.old text)) call.now.given.now machine.old) result machine.new }
 {
@@ -355,6 +359,7 @@ pub fn call_strip(
     text: Value,
     call: &Call,
 ) -> Result<Value, EvalError>
+    // It is long since it names each argument of the definition.
     ensures { Refines (spec.call_strip call.now.setting.now call.now.line front end
         (bytes_of (content call.now.setting.now machine.old text)) call.now.given.now machine.old) result machine.new }
 {
@@ -423,6 +428,7 @@ fn join_all(
 /// `join(it)`: the bytes are paid, then all items are taken, then a new string of them, with this one between them.
 /// `BadType` if `it` is not iterable, and if an item is not a string.
 pub fn call_join(machine: &mut Machine, text: Value, call: &Call) -> Result<Value, EvalError>
+    // It is long since it names each argument of the definition.
     ensures { Refines (spec.call_join call.now.setting.now call.now.line
         (bytes_of (content call.now.setting.now machine.old text)) call.now.given.now machine.old) result machine.new }
 {

@@ -1,4 +1,5 @@
 -- The module of a file ends the same in two plans that agree on all that the file needs.
+use Rattle.std.specs.Arc.{arc_value}
 use Rattle.std.proofs.Common.{◌≡◌, ◌-◌, ℕ, zero, suc, Bool, true, List, map, Some, ap, sym, subst, ◌∙◌}
 use Rattle.std.specs.Prelude.{Contains, slice_get}
 use Rattle.std.proofs.lemmas.List.Elements.{All-weaker}
@@ -13,7 +14,7 @@ use Rattle.star_plan.specs.Shelves.{IsOwn}
 use Rattle.star_reading.specs.Codes.{fault_of}
 use Rattle.star_outcome.specs.Paid.{HasPaid}
 use Rattle.star_outcome.specs.Reaches.{ReachView}
-use Rattle.star_outcome.specs.Views.{AreStores, IsBody, IsEnd, shown_texts}
+use Rattle.star_outcome.specs.Views.{AreStores, IsBody, IsEnd}
 use Rattle.star_outcome.specs.declared.module.Body.{Body}
 use Rattle.star_outcome.specs.declared.module.Ended.{Ended}
 use Rattle.star_outcome.specs.declared.module.Ended.TheVariants.{Static, Load as Unloaded, Stopped, Good}
@@ -77,7 +78,7 @@ module _ (files others : List File) (p q : Plan) (is : IsPlanOf files p) (also :
   body_to n h b is_body = record {
     shelf = is_body.shelf;
     globals = is_body.globals;
-    outcome = outcome_to files others p q is also is_in a n h (Ran (WentWell is_body.shelf is_body.globals (shown_texts b.shown.items) b.lines.items)) is_body.outcome;
+    outcome = outcome_to files others p q is also is_in a n h (Ran (WentWell is_body.shelf is_body.globals (arc_value b.shown) b.lines.items)) is_body.outcome;
     stores = stores_to n h _ is_body.stores;
     paid = paid_to files others p q is also is_in a n b.paid h is_body.paid;
   }

@@ -7,3 +7,4 @@ pub mod Bits
 pub mod Blocks
 pub mod Lent
 pub mod GoodEnds
+pub mod NoFloat

@@ -9,7 +9,6 @@ use Rattle.star_cache.specs.State.{Loads}
 use Rattle.star_cache.specs.Walk.{IsOnCycle}
 use Rattle.star_label.specs.Files.{File}
 use Rattle.star_meaning.specs.Module.{Good as WentWell, Stopped as HadFault}
-use Rattle.star_outcome.specs.Views.{shown_texts}
 use Rattle.star_plan.specs.Plan.{Plan, loaded, loads_of}
 use Rattle.star_plan.specs.Results.{IsGood, Ran, Static as StaticOutcome, Unloaded as UnloadedOutcome}
 use Rattle.star_plan.proofs.Goodness.{from_good, to_good}
@@ -26,7 +25,7 @@ end_good : (plan : Plan) (n : ℕ) (e : Ended) → IsEnd plan n e → ended_well
 end_good plan n (Static f) is well = absurd (let no : ⊥ = cc in no)
 end_good plan n (Unloaded index line) is well = absurd (let no : ⊥ = cc in no)
 end_good plan n (Stopped code line lines left) is well = absurd (let no : ⊥ = cc in no)
-end_good plan n (Good b) is well = to_good plan n (Ran (WentWell is.shelf is.globals (shown_texts (arc_value b).shown.items) (arc_value b).lines.items)) is.outcome refl
+end_good plan n (Good b) is well = to_good plan n (Ran (WentWell is.shelf is.globals (arc_value (arc_value b).shown) (arc_value b).lines.items)) is.outcome refl
 
 end_bad : (plan : Plan) (n : ℕ) (e : Ended) → IsEnd plan n e → ended_well e ≡ false → IsGood plan n → ⊥
 end_bad plan n (Static f) is ill g = let both : false ≡ true = from_good plan n (StaticOutcome (fault_of f)) is g in let no : ⊥ = cc in no

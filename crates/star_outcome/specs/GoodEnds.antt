@@ -13,7 +13,7 @@ use Rattle.star_store.specs.declared.values.Value.{Value}
 use Rattle.star_store.specs.Store.{Published, Shelf}
 use Rattle.star_outcome.specs.Paid.{HasPaid}
 use Rattle.star_outcome.specs.Reaches.{ReachView, row_of}
-use Rattle.star_outcome.specs.Views.{AreStores, ended_well, shown_texts}
+use Rattle.star_outcome.specs.Views.{AreStores, ended_well}
 use Rattle.star_outcome.specs.declared.good_end.GoodEnd.{GoodEnd}
 use Rattle.star_outcome.specs.declared.module.Body.{Body}
 use Rattle.star_outcome.specs.declared.module.Ended.{Ended}
@@ -25,7 +25,7 @@ use Rattle.star_outcome.specs.declared.module.Module.{Module}
 pub record IsLasting (plan : Plan) (n : ℕ) (b : Body) : Type 0 where
   pub shelf : Shelf
   pub globals : List (List ℕ × Value)
-  pub outcome : IsOutcome plan n (Ran (WentWell shelf globals (shown_texts b.shown.items) b.lines.items))
+  pub outcome : IsOutcome plan n (Ran (WentWell shelf globals (arc_value b.shown) b.lines.items))
   pub own : All (λ r. r.number ≡ n → IsOwn plan n r.store) (row_of b.stores)
   pub paid : HasPaid plan n b.paid
 

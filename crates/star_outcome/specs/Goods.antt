@@ -8,7 +8,7 @@ use Rattle.star_plan.specs.Plan.{Plan}
 use Rattle.star_plan.specs.Results.{IsGood, Ran, Static as StaticOutcome, Unloaded as UnloadedOutcome}
 use Rattle.star_plan.proofs.Goodness.{good}
 use Rattle.star_reading.specs.Codes.{fault_of}
-use Rattle.star_outcome.specs.Views.{IsEnd, IsTold, ToldView, ended_well, shown_texts}
+use Rattle.star_outcome.specs.Views.{IsEnd, IsTold, ToldView, ended_well}
 use Rattle.star_outcome.specs.declared.module.Ended.{Ended}
 use Rattle.star_outcome.specs.declared.module.Ended.TheVariants.{Static, Load as Unloaded, Stopped, Good}
 use Rattle.std.proofs.Common.{refl}
@@ -21,7 +21,7 @@ end_good plan n (Stopped code line lines left) is =
     good plan n (Ran (HadFault (record { code = code; line = line }) lines.items)) _ refl is
 end_good plan n (Good b) is =
     let body = arc_value b in
-    good plan n (Ran (WentWell is.shelf is.globals (shown_texts body.shown.items) body.lines.items)) _ refl is.outcome
+    good plan n (Ran (WentWell is.shelf is.globals (arc_value body.shown) body.lines.items)) _ refl is.outcome
 
 -- the product of a file says whether the file is good
 pub told_good : (files : List File) (plan : Plan) (n : ℕ) (t : ToldView) → IsTold files plan n t

@@ -3,6 +3,7 @@ pub mod Fits
 pub mod Reaches
 pub mod Numbers
 pub mod Paid
+pub mod Globals
 pub mod Views
 pub mod Gathered
 pub mod Refusals

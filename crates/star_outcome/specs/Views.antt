@@ -1,6 +1,6 @@
 -- Modules and products of the code, as contracts see them: the outcome of a file.
 use Rattle.std.specs.Arc.{arc_value}
-use Rattle.std.specs.Prelude.{◌≡◌, ◌<◌, ℕ, Bool, true, false, List, Option, Some, All, Contains, String, length, map, slice_get, string_bytes}
+use Rattle.std.specs.Prelude.{◌≡◌, ◌<◌, ℕ, Bool, true, false, List, Option, Some, All, Contains, length, map, slice_get}
 use Rattle.star_cache.specs.State.{Loads}
 use Rattle.star_cache.specs.Walk.{LeadsTo}
 use Rattle.star_label.specs.Files.{File}
@@ -20,10 +20,6 @@ use Rattle.star_outcome.specs.declared.module.Ended.{Ended}
 use Rattle.star_outcome.specs.declared.module.Ended.TheVariants.{Static, Load as Unloaded, Stopped, Good}
 use Rattle.star_outcome.specs.declared.module.Module.{Module}
 
--- globals, each with its text, as the meaning has them
-abbrev pub shown_texts : {Z : Type 0} → List (String Z × List ℕ) → List (List ℕ × List ℕ)
-shown_texts gs = map (λ g. (string_bytes g.0, g.1)) gs
-
 abbrev pub ended_well : Ended → Bool
 ended_well (Static f) = false
 ended_well (Unloaded index line) = false
@@ -40,7 +36,7 @@ pub record AreStores (plan : Plan) (n : ℕ) (rs : List ReachView) : Type 0 wher
 pub record IsBody (plan : Plan) (n : ℕ) (b : Body) : Type 0 where
   pub shelf : Shelf
   pub globals : List (List ℕ × Value)
-  pub outcome : IsOutcome plan n (Ran (WentWell shelf globals (shown_texts b.shown.items) b.lines.items))
+  pub outcome : IsOutcome plan n (Ran (WentWell shelf globals (arc_value b.shown) b.lines.items))
   pub stores : AreStores plan n (row_of b.stores)
   pub paid : HasPaid plan n b.paid
 

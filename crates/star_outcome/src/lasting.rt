@@ -4,7 +4,7 @@ ghost use Rattle.std.specs.Prelude.{◌≡◌, ℕ, Contains, IfOk, IfSome};
 ghost use Rattle.star_outcome.specs.Gathered.{AreNeeded, IsListed};
 ghost use Rattle.star_outcome.specs.GoodEnds.{HasStoreOf, IsLasting};
 ghost use Rattle.star_outcome.specs.Reaches.{row_of};
-ghost use Rattle.star_outcome.specs.Views.{IsBody, shown_texts};
+ghost use Rattle.star_outcome.specs.Views.{IsBody};
 ghost use Rattle.star_plan.specs.Shelves.{Needs};
 
 use crate::module::Body;
@@ -14,17 +14,7 @@ use crate::store_row::{Reach, StoreRow};
 use star_store::arena::Frozen;
 use star_text::Text;
 use std::alloc::{AllocError, Global};
-
-/// A copy of some globals with their texts, which are shared.
-fn shown_again(alloc: Global, shown: &[(String, Text)]) -> Result<Vec<(String, Text)>, AllocError>
-    ensures { IfOk result (λ again. shown_texts again.items ≡ shown_texts shown.now) }
-{
-    let mut again = Vec::with_capacity(alloc, shown.len())?;
-    for one in shown {
-        again.push((String::from_str(alloc, &one.0)?, one.1.share()?))?;
-    }
-    Ok(again)
-}
+use std::sync::Arc;
 
 /// The same lines, which are shared.
 fn lines_again(alloc: Global, lines: &[Text]) -> Result<Vec<Text>, AllocError>
@@ -78,7 +68,7 @@ impl Body {
         let stores = stores_with::<J>(alloc, reach.again()?, reaches)?;
         Ok(Some(Body {
             stores,
-            shown: shown_again(alloc, self.shown.as_slice())?,
+            shown: Arc::try_clone(&self.shown)?,
             lines: lines_again(alloc, self.lines.as_slice())?,
             paid: self.paid,
         }))

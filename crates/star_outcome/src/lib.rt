@@ -3,6 +3,7 @@
 //!
 //! - `Module` is how a file ended: a static fault, a failed load, a run-time fault with its printed lines, or a good
 //!   run with its store.
+//!   `Shown` has the globals that a good run leaves, with their texts.
 //! - `Shelf` has a cell for each file. The file's module is published there once. A `Note` is a proof, in a type, that
 //!   a cell has been set to a certain module. With it the module is read without a lock.
 //! - `Told` is the product that the cache hands out for a file that has ended: its number, whether it is good, and a
@@ -29,6 +30,7 @@ pub mod outcome;
 pub mod reachable;
 pub mod run_id;
 pub mod shelf;
+pub mod shown;
 pub mod store_row;
 pub mod told;
 pub mod trace;

@@ -3,6 +3,7 @@
 ghost use Rattle.std.specs.Prelude.{◌≡◌};
 ghost use Rattle.star_outcome.specs.Views.{ended_well};
 
+use crate::shown::Shown;
 use crate::store_row::StoreRow;
 use star_found::about::Found;
 use star_meaning::fault::FaultCode;
@@ -15,8 +16,8 @@ use std::sync::Arc;
 pub struct Body {
     /// The stores of the file and of all files that its loads lead to.
     pub stores: StoreRow,
-    /// Each global with its text, in byte order of the names.
-    pub shown: Vec<(String, Text)>,
+    /// The globals with their texts, which the body has in common with the one over other stores.
+    pub shown: Arc<Shown>,
     pub lines: Vec<Text>,
     /// The steps that its run has paid.
     pub paid: u32,

@@ -17,7 +17,7 @@ const MERGE_FROM: usize = 32;
 /// The store of a file, shared by all modules that reach it.
 pub struct Reach {
     number: u32,
-    store: Arc<Frozen>,
+    store: Arc<Box<Frozen>>,
 }
 
 impl Drop for Reach {
@@ -35,7 +35,7 @@ impl Model for Reach {
 
     ghost Value = { ReachView };
 
-    ghost view = { λ r. record { number = r.number; store = arc_value r.store } };
+    ghost view = { λ r. record { number = r.number; store = (arc_value r.store).value } };
 }
 
 impl Reach {
@@ -43,7 +43,7 @@ impl Reach {
     pub(crate) fn new(alloc: Global, number: u32, store: Frozen) -> Result<Reach, AllocError>
         ensures { IfOk result (λ r. r ≡ record { number = number; store = store }) }
     {
-        let store = Arc::new(alloc, store)?;
+        let store = Arc::new(alloc, Box::new(alloc, store)?)?;
         Ok(Reach { number, store })
     }
 
@@ -58,7 +58,7 @@ impl Reach {
     pub(crate) fn store(&self) -> &Frozen
         ensures { result.now ≡ self.now.store }
     {
-        &*self.store
+        &**self.store
     }
 
     /// A copy that shares the store.

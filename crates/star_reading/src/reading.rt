@@ -88,6 +88,7 @@ impl<'t> Reads<'t> {
 
     /// Takes the results of reading other files in, each at its place if none is there.
     pub fn take_others(&mut self)
+        // It is long since it is about three rows.
         ensures { (files : List File) (prelude : Option ℕ) → AreKnown files prelude self.old.all.items
             → AreKnown files prelude self.old.others.items → AreKnown files prelude self.new.all.items }
     {

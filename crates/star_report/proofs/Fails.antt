@@ -5,7 +5,6 @@ use Rattle.std.specs.Prelude.{All, Contains, IfSome, slice_get, slice_index_or, 
 use Rattle.std.proofs.lemmas.Bool.{cases_eq}
 use Rattle.std.proofs.lemmas.List.Elements.{All-contains}
 use Rattle.star_meaning.specs.Module.{Good as WentWell}
-use Rattle.star_outcome.specs.Views.{shown_texts}
 use Rattle.star_plan.specs.Causes.{FailsBy}
 use Rattle.star_plan.specs.Plan.{Plan, Reading, loaded, loads_in, read_of}
 use Rattle.star_plan.proofs.Causes.{stops}
@@ -27,7 +26,7 @@ no_load : (plan : Plan) (n m : ℕ) (e : Ended) → IsEnd plan n e → ((index l
 no_load plan n m (Static f) is other fails = stops plan n m (inl (fault_of f, is)) fails
 no_load plan n m (Unloaded index line) is other fails = other index line refl
 no_load plan n m (Stopped code line lines trail) is other fails = stops plan n m (inr (record { code = code; line = line }, lines.items, is)) fails
-no_load plan n m (Good body) is other fails = no_bad plan is.outcome.0 n (WentWell is.shelf is.globals (shown_texts (arc_value body).shown.items) (arc_value body).lines.items) fails.0 is.outcome.1 fails.1
+no_load plan n m (Good body) is other fails = no_bad plan is.outcome.0 n (WentWell is.shelf is.globals (arc_value (arc_value body).shown) (arc_value body).lines.items) fails.0 is.outcome.1 fails.1
 
 -- a module that ended otherwise fails by no file
 pub fails_not : (it : Module) → ((index line : ℕ) → it.ended ≡ Unloaded index line → ⊥) → (plan : Plan) (n m : ℕ) → IsModule plan n it → (None ≡ Some m) ↔ FailsBy plan n m

@@ -19,7 +19,7 @@ use Rattle.star_plan.specs.Reached.{root as is_root}
 use Rattle.star_plan.specs.Reading.{IsPlanOf}
 use Rattle.star_plan.specs.Results.{Ran, Static as StaticOutcome, Unloaded as UnloadedOutcome}
 use Rattle.star_reading.specs.Codes.{fault_of}
-use Rattle.star_outcome.specs.Views.{IsBody, IsEnd, IsModule, shown_texts}
+use Rattle.star_outcome.specs.Views.{IsBody, IsEnd, IsModule}
 use Rattle.star_outcome.specs.declared.module.Body.{Body}
 use Rattle.star_outcome.specs.declared.module.Ended.{Ended}
 use Rattle.star_outcome.specs.declared.module.Ended.TheVariants.{Static, Load as Unloaded, Stopped, Good}
@@ -49,7 +49,7 @@ ended_has files plan n (Unloaded index line) name planned is = (UnloadedOutcome 
 ended_has files plan n (Stopped code line lines story) name planned is = (Ran (HadFault (record { code = code; line = line }) lines.items), is, refl)
 ended_has files plan n (Good b) name planned is =
     let body = arc_value b in
-    (Ran (WentWell is.shelf is.globals (shown_texts body.shown.items) body.lines.items), is.outcome, sym (stored_is files plan n body planned is name))
+    (Ran (WentWell is.shelf is.globals (arc_value body.shown) body.lines.items), is.outcome, sym (stored_is files plan n body planned is name))
 
 -- a module has the same answer for a name as its file
 pub module_has : (files : List File) (plan : Plan) (n : ℕ) (m : Module) (name : List ℕ) → IsPlanOf files plan → IsModule plan n m → HasGot plan name n (got_in (length files) m.number m.ended name)

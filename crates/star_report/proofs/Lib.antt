@@ -4,6 +4,7 @@ pub mod NoFloat
 pub mod Stores
 pub mod Shows
 pub mod Members
+pub mod Wells
 pub mod Sheets
 pub mod Planned
 pub mod Nothing

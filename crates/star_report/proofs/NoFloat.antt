@@ -2,10 +2,6 @@
 use Rattle.std.proofs.Common.{arith, ◌≡◌, ℕ, zero, suc, ℤ, pos, negsuc, List, [], ◌∷◌, Bool, true, false, Option, Some, None, fold, map, codes, refl, ap, sym, ◌∙◌, if◌then◌else◌}
 use Rattle.std.specs.Prelude.{All, filter, is_some, option_and_then}
 use Rattle.std.specs.Option.{option_map}
-use Rattle.std.specs.declared.cmp.Ordering.{Ordering}
-use Rattle.std.specs.declared.cmp.Ordering.TheVariants.{Less, Equal, Greater}
-use Rattle.std.specs.Ordering.{nat_cmp, match_ordering}
-use Rattle.std.specs.Cmp.Lexicographic.{slice_cmp}
 use Rattle.std.proofs.lemmas.Bool.{or_parts}
 use Rattle.serde_json.specs.Data.{Data, Items, Members, array, boolean, item, member, no_items, no_members, null, number, object, put, string}
 use Rattle.serde_json.specs.Find.{of_integer}
@@ -31,28 +27,13 @@ use Rattle.star_report.specs.Wanted.{AreMore, AreWanted, Full, HasLoads, HasStep
 use Rattle.star_report.specs.declared.wanted.Wanted.{Wanted}
 use Rattle.star_plan.specs.Causes.{Cause, Culprit, Cycle}
 use Rattle.star_plan.specs.Report.{Ended, HadFault, HadLoad, HadStatic, Module, WentWell}
-use Rattle.star_plan.specs.Text.{code_word, ended_data, ill_data, load_data, module_data, static_line, static_word, texts_data, well_data, with_global}
-
-at_ordering : (o : Ordering) (a b c : Members) → members_have_float a ≡ false → members_have_float b ≡ false → members_have_float c ≡ false → members_have_float (match_ordering o a b c) ≡ false
-at_ordering Less a b c h g f = h
-at_ordering Equal a b c h g f = g
-at_ordering Greater a b c h g f = f
-
-put_none : (k : List ℕ) (d : Data) (ms : Members) → has_float d ≡ false → members_have_float ms ≡ false → members_have_float (put k d ms) ≡ false
-put_none k d no_members g h = rw g refl
-put_none k d (member l e ms) g h =
-    let both = or_parts (has_float e) (members_have_float ms) h in
-    at_ordering (slice_cmp nat_cmp k l) (member k d (member l e ms)) (member l d ms) (member l e (put k d ms))
-    (rw g h) (rw g both.1) (rw both.0 (put_none k d ms g both.1))
+use Rattle.star_outcome.proofs.NoFloat.{globals_none, put_none}
+use Rattle.star_plan.specs.Text.{code_word, ended_data, ill_data, load_data, module_data, static_line, static_word, texts_data, well_data}
 
 put_text : (k s : List ℕ) (ms : Members) → members_have_float ms ≡ false → members_have_float (put k (string s) ms) ≡ false
 put_text k s ms h = put_none k (string s) ms refl h
 
-globals_from : (gs : List (List ℕ × List ℕ)) (ms : Members) → members_have_float ms ≡ false → members_have_float (fold with_global ms gs) ≡ false
-globals_from [] ms h = h
-globals_from (g ∷ gs) ms h = globals_from gs (with_global ms g) (put_text g.0 g.1 ms h)
-
-texts_none : (ts : List (List ℕ)) → items_have_float (items_of (map string ts)) ≡ false
+pub texts_none : (ts : List (List ℕ)) → items_have_float (items_of (map string ts)) ≡ false
 texts_none [] = refl
 texts_none (t ∷ ts) = texts_none ts
 
@@ -60,7 +41,7 @@ ill_none : (key : List ℕ) (fault : Data) (label : List ℕ) (line : ℕ) (line
 ill_none key fault label line lines status h = rw (h, texts_none lines) refl
 
 well_none : (label : List ℕ) (texts : List (List ℕ × List ℕ)) (lines : List (List ℕ)) → has_float (well_data label texts lines) ≡ false
-well_none label texts lines = rw (globals_from texts no_members refl, texts_none lines) refl
+well_none label texts lines = rw (globals_none texts, texts_none lines) refl
 
 load_none : (files : List File) (label : List ℕ) (cause : Cause) (line : ℕ) → has_float (load_data files label cause line) ≡ false
 load_none files label (Culprit n) line = ill_none (codes "cause") (string (label_at files n)) label line [] (codes "load") refl

@@ -6,7 +6,7 @@ use Rattle.std.proofs.lemmas.Bool.{or_parts, true≢false}
 use Rattle.std.proofs.lemmas.List.{append-nil, append_assoc, length-map, length_push, get_or-map, map_push, take_all, take_more}
 use Rattle.serde_json.proofs.OnLiterals.{serde_json_on_literals}
 use Rattle.serde_json.specs.Data.{Data}
-use Rattle.serde_json.specs.View.{items_of, view}
+use Rattle.serde_json.specs.View.{items_of}
 use Rattle.serde_json.specs.Written.{comma_if, compact_text, has_float, items_have_float, items_text}
 use Rattle.star_cause.specs.Causes.{AreNextsOf}
 use Rattle.star_cause.specs.Ways.{Nexts}
@@ -212,10 +212,10 @@ module _ (wanted : Wanted) (files : List File) (row : Row) (plan : Plan) (nexts 
       let own : HasText wanted files nexts p = subst (HasText wanted files nexts) (found.1 p) (has i p inside) in
       let text = text_of_page wanted files nexts p own in
       let first : take (i + 1) ps ≡ take i ps ++ p ∷ [] = take_more ps i p inside ∙ ap (λ x. take i ps ++ x ∷ []) (found.1 p) in (
-        before.0 ++ added (more_of wanted files p.loads.now it) (view text.0) ∷ [],
-        subst (AreShown wanted files plan (take (i + 1) ks) (before.0 ++ added (more_of wanted files p.loads.now it) (view text.0) ∷ [])) (sym (ap (map (λ (q : Page). q.shown)) first ∙ map_push (λ (q : Page). q.shown) (take i ps) p))
+        before.0 ++ added (more_of wanted files p.loads.now it) text.0 ∷ [],
+        subst (AreShown wanted files plan (take (i + 1) ks) (before.0 ++ added (more_of wanted files p.loads.now it) text.0 ∷ [])) (sym (ap (map (λ (q : Page). q.shown)) first ∙ map_push (λ (q : Page). q.shown) (take i ps) p))
             (shown_more wanted files row plan nexts ks i before.0 (map (λ (q : Page). q.shown) (take i ps)) it p.loads.now text.0 p.shown less known text.1 (subst (SaysShown wanted plan.roots) (found.1 p) (says i p inside)) planned read (subst (HasItsLoads row) (found.1 p) (loaded i p inside)) are nexts_are before.1),
-        subst (λ ts. AreTextsOf ts (before.0 ++ added (more_of wanted files p.loads.now it) (view text.0) ∷ [])) (sym (ap (map page_text) first ∙ map_push page_text (take i ps) p)) (texts_push (map page_text (take i ps)) before.0 (page_text p) (added (more_of wanted files p.loads.now it) (view text.0)) before.2 text.2),
+        subst (λ ts. AreTextsOf ts (before.0 ++ added (more_of wanted files p.loads.now it) text.0 ∷ [])) (sym (ap (map page_text) first ∙ map_push page_text (take i ps) p)) (texts_push (map page_text (take i ps)) before.0 (page_text p) (added (more_of wanted files p.loads.now it) text.0) before.2 text.2),
       )
 
   shown_to : map known_of ps ≡ map (λ (k : KeptView). k.known) ks → All (HasText wanted files nexts) ps → All (SaysShown wanted plan.roots) ps → All (HasItsLoads row) ps → IsPlanOf files plan → readings row ≡ plan.reads → AreModules plan ks → AreNextsOf plan nexts → (i : ℕ) → i ≤ length ks → i ≤ length ps → Shown i

@@ -6,10 +6,7 @@ use Rattle.serde_json.specs.Data.{Data, Members, no_members}
 use Rattle.std.specs.List.Sorted.{IsStrictlyIncreasing}
 use Rattle.std.proofs.lemmas.List.{get_or-map, length-map, map_push, take_all, take_more}
 use Rattle.std.proofs.lemmas.List.Elements.{All-get_or, All-nil, All-push}
-use Rattle.serde_json.specs.View.{view}
-use Rattle.serde_json.specs.declared.value.Value.{Value}
 use Rattle.star_label.specs.Files.{File, label_at}
-use Rattle.star_outcome.specs.Views.{shown_texts}
 use Rattle.star_plan.specs.Plan.{Plan, loaded}
 use Rattle.star_plan.specs.Reached.{IsReached}
 use Rattle.star_plan.specs.Reading.{IsPlanOf}
@@ -40,14 +37,14 @@ use Rattle.star_outcome.specs.declared.module.Module.{Module}
 bad_load : (plan : Plan) (n index : ℕ) → IsFirstBad plan (loaded plan n) index → IsGood plan n → ⊥
 bad_load plan n index bad good = no_bad plan good.0 n good.1.0 index (good_is (result plan good.0 n) good.1.0 good.1.1) bad
 
--- a value that shows how a file ended is the value of its module in the report
-pub one_shown : (files : List File) (plan : Plan) (nexts : Nexts) (n : ℕ) (e : Ended) (v : Value) → IsPlanOf files plan → AreNextsOf plan nexts → IsReached plan n → IsEnd plan n e → IsShown files nexts n e v
-    → (r : ReportEnded) × IsEnded plan n r × (view v ≡ ended_data files (label_at files n) r) × (is_ok r ≡ ended_well e)
+-- data that show how a file ended are those of its module in the report
+pub one_shown : (files : List File) (plan : Plan) (nexts : Nexts) (n : ℕ) (e : Ended) (v : Data) → IsPlanOf files plan → AreNextsOf plan nexts → IsReached plan n → IsEnd plan n e → IsShown files nexts n e v
+    → (r : ReportEnded) × IsEnded plan n r × (v ≡ ended_data files (label_at files n) r) × (is_ok r ≡ ended_well e)
 one_shown files plan nexts n (Static f) v planned are reached is shown = (HadStatic (fault_of f), is, shown, refl)
 one_shown files plan nexts n (Unloaded index line) v planned are reached is shown =
     (HadLoad shown.0 line, (shown.1 files plan planned are reached (bad_load plan n index is.0), (index, is.1.0, is.0, is.1.1, is.1.2)), shown.2, refl)
 one_shown files plan nexts n (Stopped code line lines trail) v planned are reached is shown = (HadFault (record { code = code; line = line }) lines.items, is, shown, refl)
-one_shown files plan nexts n (Good body) v planned are reached is shown = (WentWell (shown_texts (arc_value body).shown.items) (arc_value body).lines.items, (is.shelf, is.globals, is.outcome), shown, refl)
+one_shown files plan nexts n (Good body) v planned are reached is shown = (WentWell (arc_value (arc_value body).shown) (arc_value body).lines.items, (is.shelf, is.globals, is.outcome), shown, refl)
 
 -- ---- the modules that are kept
 
@@ -102,9 +99,9 @@ shown_push wanted files plan ks ds bs k d b r ms is more seen kept was =
       shown_are = ap (λ xs. xs ++ b ∷ []) was.shown_are ∙ (ap (λ x. map (is_shown wanted plan) was.fulls ++ x ∷ []) kept ∙ sym (map_push (is_shown wanted plan) was.fulls f));
     }
 
-pub shown_more : (wanted : Wanted) (files : List File) (row : Row) (plan : Plan) (nexts : Nexts) (ks : List KeptView) (i : ℕ) (ds : List Data) (bs : List Bool) (it : Module) (loads : List Load) (v : Value) (b : Bool) → i < length ks → ((d : KeptView) → (slice_index_or ks i d).known ≡ Some it) → IsShown files nexts it.number it.ended v
+pub shown_more : (wanted : Wanted) (files : List File) (row : Row) (plan : Plan) (nexts : Nexts) (ks : List KeptView) (i : ℕ) (ds : List Data) (bs : List Bool) (it : Module) (loads : List Load) (v : Data) (b : Bool) → i < length ks → ((d : KeptView) → (slice_index_or ks i d).known ≡ Some it) → IsShown files nexts it.number it.ended v
     → b ≡ is_shown_by wanted plan.roots (ended_well it.ended) it.number
-    → IsPlanOf files plan → readings row ≡ plan.reads → loads ≡ loads_at row it.number → AreModules plan ks → AreNextsOf plan nexts → AreShown wanted files plan (take i ks) ds bs → AreShown wanted files plan (take (i + 1) ks) (ds ++ added (more_of wanted files loads it) (view v) ∷ []) (bs ++ b ∷ [])
+    → IsPlanOf files plan → readings row ≡ plan.reads → loads ≡ loads_at row it.number → AreModules plan ks → AreNextsOf plan nexts → AreShown wanted files plan (take i ks) ds bs → AreShown wanted files plan (take (i + 1) ks) (ds ++ added (more_of wanted files loads it) v ∷ []) (bs ++ b ∷ [])
 shown_more wanted files row plan nexts ks i ds bs it loads v b less known shown kept planned read own_loads are nexts_are was =
     let k : KeptView = slice_index_or ks i no_note in
     let ms : Members = more_of wanted files loads it in
@@ -113,8 +110,8 @@ shown_more wanted files row plan nexts ks i ds bs it loads v b less known shown 
     let one = one_shown files plan nexts k.number it.ended v planned nexts_are (reached_at plan ks i no_note less are) is.ended own in
     let here : b ≡ is_shown_by wanted plan.roots (is_ok one.0) k.number =
     kept ∙ (ap (λ n. is_shown_by wanted plan.roots (ended_well it.ended) n) is.number ∙ ap (λ x. is_shown_by wanted plan.roots x k.number) (sym one.3)) in
-    subst (λ xs. AreShown wanted files plan xs (ds ++ added ms (view v) ∷ []) (bs ++ b ∷ [])) (sym (take_more ks i no_note less))
-    (shown_push wanted files plan (take i ks) ds bs k (view v) b one.0 ms one.1 (more_is wanted files row plan k.number it loads planned read own_loads is) one.2 here was)
+    subst (λ xs. AreShown wanted files plan xs (ds ++ added ms v ∷ []) (bs ++ b ∷ [])) (sym (take_more ks i no_note less))
+    (shown_push wanted files plan (take i ks) ds bs k v b one.0 ms one.1 (more_is wanted files row plan k.number it loads planned read own_loads is) one.2 here was)
 
 pub shown_all : (wanted : Wanted) (files : List File) (plan : Plan) (ks : List KeptView) (i : ℕ) (ds : List Data) (bs : List Bool) → i ≡ length ks → AreShown wanted files plan (take i ks) ds bs → AreShown wanted files plan ks ds bs
 shown_all wanted files plan ks i ds bs end was = subst (λ xs. AreShown wanted files plan xs ds bs) (take_all i ks (let e : i ≡ length ks = end in omega arith)) was

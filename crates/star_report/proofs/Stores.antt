@@ -34,7 +34,8 @@ use Rattle.star_plan.proofs.Stay.{good_is, result-from}
 use Rattle.star_plan.proofs.Union.{put_up-keeps, put_up-own}
 use Rattle.star_outcome.specs.Homes.{seated}
 use Rattle.star_outcome.specs.Reaches.{ReachView, row_of}
-use Rattle.star_outcome.specs.Views.{AreStores, IsBody, IsEnd, IsModule, shown_texts}
+use Rattle.star_outcome.specs.Globals.{shown_texts}
+use Rattle.star_outcome.specs.Views.{AreStores, IsBody, IsEnd, IsModule}
 use Rattle.star_outcome.specs.declared.module.Body.{Body}
 use Rattle.star_outcome.specs.declared.module.Ended.{Ended}
 use Rattle.star_outcome.specs.declared.module.Ended.TheVariants.{Static, Load as Unloaded, Stopped, Good as Well}
@@ -257,11 +258,11 @@ own_globals plan d n shelf globals texts lines e rs are =
 -- the stores of a module lead where its own shelf leads, and have its globals
 pub stores_say : (files : List File) (plan : Plan) (n : ℕ) (b : Body) → IsPlanOf files plan → (is : IsBody plan n b) → ((v : Value) → look (record { home = length files; cells = [] }) (shelf_in b) v ≡ on_shelf is.shelf v) × (globals_in (option_flatten (slice_get (shelf_in b) n)) ≡ is.globals)
 stores_say files plan n b planned is =
-    let m : Local = Good is.shelf is.globals (shown_texts b.shown.items) b.lines.items in
+    let m : Local = Good is.shelf is.globals (arc_value b.shown) b.lines.items in
     let d = is.outcome.0 in
     let e = is.outcome.1 in
     let rs = row_of b.stores in
-    (same_look plan d n m e (run_of plan d n m e refl) rs is.stores files planned, own_globals plan d n is.shelf is.globals (shown_texts b.shown.items) b.lines.items e rs is.stores)
+    (same_look plan d n m e (run_of plan d n m e refl) rs is.stores files planned, own_globals plan d n is.shelf is.globals (arc_value b.shown) b.lines.items e rs is.stores)
 
 stored_is : (files : List File) (plan : Plan) (n : ℕ) (b : Body) → IsPlanOf files plan → (is : IsBody plan n b) → (name : List ℕ) → stored_data (length files) n b name ≡ global_data (on_shelf is.shelf) is.globals name
 stored_is files plan n b planned is name =
@@ -287,7 +288,7 @@ same_members f g same xs =
     ap (λ os. member (codes "opaque") (array (items_of (map string os))) (member (codes "values") (object (fold (with_value f) no_members xs)) no_members)) (filtered f g same xs)
     ∙ ap (λ vs. member (codes "opaque") (array (items_of (map string (filter (is_opaque g) xs)))) (member (codes "values") (object vs) no_members)) (folded f g same xs no_members)
 
-names_are : {Z : Type 0} (gs : List (String Z × List ℕ)) → map (λ (g : String Z × List ℕ). string_bytes g.0) gs ≡ map (λ (g : List ℕ × List ℕ). g.0) (shown_texts gs)
+pub names_are : {Z : Type 0} (gs : List (String Z × List ℕ)) → map (λ (g : String Z × List ℕ). string_bytes g.0) gs ≡ map (λ (g : List ℕ × List ℕ). g.0) (shown_texts gs)
 names_are [] = refl
 names_are (g ∷ gs) = ap (λ ns. string_bytes g.0 ∷ ns) (names_are gs)
 
@@ -299,9 +300,9 @@ values_has files plan n (Well b) planned is =
     let body = arc_value b in
     let f = stored_data (length files) n body in
     let g = global_data (on_shelf is.shelf) is.globals in (
-      Ran (Good is.shelf is.globals (shown_texts body.shown.items) body.lines.items),
+      Ran (Good is.shelf is.globals (arc_value body.shown) body.lines.items),
       is.outcome,
-      same_members f g (stored_is files plan n body planned is) (names_of body) ∙ ap (value_members_by g) (names_are body.shown.items),
+      same_members f g (stored_is files plan n body planned is) (names_of body),
     )
 
 if_wanted : (b : Bool) (P : Members → Type 0) (ms : Members) → P ms → AreWanted b P (if b then ms else no_members)
@@ -312,7 +313,7 @@ steps_has : (plan : Plan) (n : ℕ) (x : Ended) → IsEnd plan n x → HasSteps 
 steps_has plan n (Static f) is = (StaticOutcome (fault_of f), is, refl)
 steps_has plan n (Unloaded index line) is = (UnloadedOutcome index, is.0, refl)
 steps_has plan n (Stopped code line lines trail) is = (Ran (HadFault (record { code = code; line = line }) lines.items), is, refl)
-steps_has plan n (Well b) is = (Ran (Good is.shelf is.globals (shown_texts (arc_value b).shown.items) (arc_value b).lines.items), is.outcome, ((arc_value b).paid, is.paid, refl))
+steps_has plan n (Well b) is = (Ran (Good is.shelf is.globals (arc_value (arc_value b).shown) (arc_value b).lines.items), is.outcome, ((arc_value b).paid, is.paid, refl))
 
 -- the further members of a module, by what was read and by its stores, are those of its file
 pub more_is : (wanted : Wanted) (files : List File) (row : Row) (plan : Plan) (n : ℕ) (m : Module) (loads : List Load) → IsPlanOf files plan → readings row ≡ plan.reads → loads ≡ loads_at row m.number → IsModule plan n m → AreMore wanted files plan n (more_of wanted files loads m)

@@ -1,8 +1,7 @@
 -- The pages of a report: modules, and their texts.
 use Rattle.std.specs.Prelude.{◌≡◌, ◌<◌, ℕ, List, [], ◌∷◌, ◌++◌, Bool, false, true, Option, Some, None, IfSome, Vec, codes, decimal, filter, length, map, slice_index_or}
-use Rattle.serde_json.specs.View.{view}
+use Rattle.serde_json.specs.Data.{Data}
 use Rattle.serde_json.specs.Written.{comma_if}
-use Rattle.serde_json.specs.declared.value.Value.{Value}
 use Rattle.star_label.specs.Files.{File}
 use Rattle.star_cause.specs.Ways.{Nexts}
 use Rattle.star_scope.specs.declared.loads.Load.{Load}
@@ -16,11 +15,16 @@ use Rattle.star_outcome.specs.Views.{ended_well}
 use Rattle.star_outcome.specs.declared.module.Module.{Module}
 use Rattle.star_report.specs.declared.pages.Page.{Page}
 
--- a text is the text of a value that shows a module, with the further members that are wanted
+-- a text is the text of data that show a module, with the further members that are wanted
 abbrev pub IsTextOf : Wanted → List File → Nexts → List Load → Module → List ℕ → Type 0
 IsTextOf wanted files nexts loads m text =
-    (v : Value) × IsShown files nexts m.number m.ended v
-    × IsDataText (added (more_of wanted files loads m) (view v)) text
+    (d : Data) × IsShown files nexts m.number m.ended d × IsDataText (added (more_of wanted files loads m) d) text
+
+-- the text of a module that ran to its end, by the JSON of its globals, of its label and of its lines
+abbrev pub text_around : List ℕ → List ℕ → List ℕ → List ℕ
+text_around globals label lines =
+    codes "{\"globals\":" ++ (globals ++ (codes ",\"label\":" ++ (label ++ (codes ",\"lines\":"
+    ++ (lines ++ codes ",\"status\":\"ok\"}")))))
 
 -- the module that a page is about, as a note knows it
 abbrev pub known_of : Page → Option Module

@@ -37,7 +37,7 @@ names_in shown = map (λ g. string_bytes g.0) shown
 
 -- the names of the globals of a module
 abbrev pub names_of : Body → List (List ℕ)
-names_of b = names_in b.shown.items
+names_of b = map (λ g. g.0) (arc_value b.shown)
 
 -- the name of a global that is not data
 abbrev pub opaque_name : (List ℕ → Option Data) → List ℕ → List (List ℕ)

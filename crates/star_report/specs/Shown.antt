@@ -3,8 +3,6 @@ use Rattle.std.specs.Arc.{arc_value}
 use Rattle.std.specs.Prelude.{◌≡◌, ℕ, Bool, List, length, map, codes}
 use Rattle.std.specs.List.{All}
 use Rattle.serde_json.specs.Data.{Data, string}
-use Rattle.serde_json.specs.View.{view}
-use Rattle.serde_json.specs.declared.value.Value.{Value}
 use Rattle.star_label.specs.Files.{File, label_at}
 use Rattle.star_plan.specs.Causes.{Cause}
 use Rattle.star_plan.specs.Plan.{Plan}
@@ -13,7 +11,6 @@ use Rattle.star_plan.specs.Report.{IsEnded, IsReport}
 use Rattle.star_plan.specs.Text.{code_word, ill_data, load_data, static_data, well_data}
 use Rattle.star_cause.specs.Causes.{IsCauseBy}
 use Rattle.star_cause.specs.Ways.{Nexts}
-use Rattle.star_outcome.specs.Views.{shown_texts}
 use Rattle.star_reading.specs.Codes.{fault_of}
 use Rattle.star_reading.specs.Found.{IsReadOf}
 use Rattle.star_reading.specs.Readings.{Row}
@@ -23,20 +20,20 @@ use Rattle.star_report.specs.declared.wanted.Wanted.{Wanted}
 use Rattle.star_outcome.specs.declared.module.Ended.{Ended}
 use Rattle.star_outcome.specs.declared.module.Ended.TheVariants.{Static, Load as Unloaded, Stopped, Good}
 
--- a value shows a file that fails by a load at this line, with the cause of that
-abbrev pub IsLoadShown : List File → Nexts → ℕ → ℕ → Value → Type 0
-IsLoadShown files nexts n line v =
-    (cause : Cause) × IsCauseBy nexts n cause × (view v ≡ load_data files (label_at files n) cause line)
+-- data show a file that fails by a load at this line, with the cause of that
+abbrev pub IsLoadShown : List File → Nexts → ℕ → ℕ → Data → Type 0
+IsLoadShown files nexts n line d =
+    (cause : Cause) × IsCauseBy nexts n cause × (d ≡ load_data files (label_at files n) cause line)
 
--- a value shows how the module of a file ended
-abbrev pub IsShown : List File → Nexts → ℕ → Ended → Value → Type 0
-IsShown files nexts n (Static f) v =
-    view v ≡ static_data (label_at files n) (fault_of f)
-IsShown files nexts n (Unloaded index line) v = IsLoadShown files nexts n line v
-IsShown files nexts n (Stopped code line lines trail) v =
-    view v ≡ ill_data (codes "fault") (string (code_word code)) (label_at files n) line lines.items (codes "fault")
-IsShown files nexts n (Good body) v =
-    view v ≡ well_data (label_at files n) (shown_texts (arc_value body).shown.items) (arc_value body).lines.items
+-- data show how the module of a file ended
+abbrev pub IsShown : List File → Nexts → ℕ → Ended → Data → Type 0
+IsShown files nexts n (Static f) d =
+    d ≡ static_data (label_at files n) (fault_of f)
+IsShown files nexts n (Unloaded index line) d = IsLoadShown files nexts n line d
+IsShown files nexts n (Stopped code line lines trail) d =
+    d ≡ ill_data (codes "fault") (string (code_word code)) (label_at files n) line lines.items (codes "fault")
+IsShown files nexts n (Good body) d =
+    d ≡ well_data (label_at files n) (arc_value (arc_value body).shown) (arc_value body).lines.items
 
 -- these data are modules of a plan of these files: those of the files of these notes, in their order, each as it ended,
 -- with its further members. `shown` has for each whether it is shown

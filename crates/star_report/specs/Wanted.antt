@@ -19,6 +19,10 @@ use Rattle.star_report.specs.declared.wanted.Wanted.{Wanted}
 abbrev pub nothing_more : Wanted
 nothing_more = record { values = false; loads = false; steps = false; only_roots = false }
 
+-- no further members
+abbrev pub IsPlain : Wanted → Type 0
+IsPlain w = (w.values ≡ false) × (w.loads ≡ false) × (w.steps ≡ false)
+
 -- members of one kind: those that are wanted, or none
 abbrev pub AreWanted : Bool → (Members → Type 0) → Members → Type 0
 AreWanted true P ms = P ms

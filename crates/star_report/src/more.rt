@@ -199,7 +199,7 @@ pub(crate) fn text_with_more(
     shown: Json,
 ) -> Result<Vec<u8>, AllocError>
     requires loads { All (λ l. l.file < length files.now) loads.now }
-    requires shown { (nexts : Nexts) × IsShown files.now nexts it.now.number it.now.ended shown }
+    requires shown { (nexts : Nexts) × IsShown files.now nexts it.now.number it.now.ended (view shown) }
     ensures { IfOk result (λ t.
         IsDataText (added (more_of wanted files.now loads.now it.now) (view shown)) t.items) }
 {

@@ -7,11 +7,11 @@ ghost use Rattle.star_reading.specs.Readings.{loads_at};
 ghost use Rattle.star_report.specs.Pages.{AreWritten, HasItsLoads, IsTextOf, IsWritten, SaysShown, joined_text, known_of, page_text, shown_texts_of};
 
 use crate::more::text_with_more;
-use crate::report::module_value;
+use crate::report::{good_text, module_value};
 use crate::wanted::Wanted;
 use star_cause::Causes;
 use star_label::files::Files as Labels;
-use star_outcome::module::Module;
+use star_outcome::module::{Ended, Module};
 use star_outcome::outcome::{Kept, Run};
 use star_reading::reading::Reads;
 use star_scope::loads::Load;
@@ -19,8 +19,14 @@ use std::alloc::{AllocError, Global};
 use std::thread;
 use std::thread::Threads;
 
-/// One more thread writes for each 16 modules.
+/// One more thread writes for each 16 modules, if further members are wanted. Without them a module is written by copying
+/// its JSON, so one more thread writes for each 1,024.
 const MODULES_A_THREAD: usize = 16;
+
+const PLAIN_MODULES_A_THREAD: usize = 1_024;
+
+/// How many bytes the end of a report has.
+const END_BYTES: usize = 3;
 
 /// A module with the loads of its file, whether it is shown, and its text once it is written; none if a growth was
 /// refused.
@@ -61,8 +67,20 @@ fn module_text(
     requires there { it.now.number < length files.now }
     ensures { IfOk result (λ s. IsTextOf wanted files.now causes.now loads.now it.now s.items) }
 {
-    let shown = module_value(alloc, files, causes, it)?;
-    text_with_more(alloc, files, loads, wanted, it, shown)
+    match &it.ended {
+        Ended::Good(body) if wanted.is_plain() => {
+            good_text(
+                alloc,
+                files.label(it.number).text(),
+                &body.shown,
+                &body.lines,
+            )
+        }
+        _ => {
+            let shown = module_value(alloc, files, causes, it)?;
+            text_with_more(alloc, files, loads, wanted, it, shown)
+        }
+    }
 }
 
 /// The empty page of a module.
@@ -122,7 +140,12 @@ pub(crate) fn write_pages<R: Threads + Sync>(
     requires there { All (λ p. p.about.now.number < length files.now) pages.old }
     ensures { AreWritten wanted files.now causes.now pages.old pages.new }
 {
-    let threads = threads.min(pages.len() / MODULES_A_THREAD + 1).max(1);
+    let modules = if wanted.is_plain() {
+        PLAIN_MODULES_A_THREAD
+    } else {
+        MODULES_A_THREAD
+    };
+    let threads = threads.min(pages.len() / modules + 1).max(1);
     thread::for_each_mut(
         rt,
         pages,
@@ -163,9 +186,9 @@ fn push_page(all: &mut Vec<u8>, later: bool, page: &Page) -> Result<bool, AllocE
     Ok(true)
 }
 
-/// The number of bytes of all texts, with a comma for each.
+/// The number of bytes of all texts, with a comma for each, and of the end of the report.
 fn room_of(pages: &[Page]) -> usize {
-    let mut room: usize = 0;
+    let mut room: usize = END_BYTES;
     for page in pages {
         if let Some(text) = &page.text {
             room = room.saturating_add(text.len()).saturating_add(1);

@@ -1,28 +1,30 @@
 //! `report`: the report of a run as one text, and the JSON of each module.
 
 ghost use Rattle.std.specs.Prelude.{◌≡◌, ◌<◌, ◌↔◌, ℕ, true, false, Contains, Some, IfOk, IfSome, OnOk};
-ghost use Rattle.std.specs.Prelude.{codes, fold, length, map, string_bytes, vec_len};
-ghost use Rattle.serde_json.specs.Data.{no_members, number, string};
-ghost use Rattle.serde_json.specs.View.{members_view, view};
+ghost use Rattle.std.specs.Prelude.{codes, length, map, vec_len};
+ghost use Rattle.serde_json.specs.Data.{number, string};
+ghost use Rattle.serde_json.specs.View.{view};
+ghost use Rattle.serde_json.specs.Written.{compact_text};
 ghost use Rattle.star_cause.specs.Ends.{AreWithin};
-ghost use Rattle.star_outcome.specs.Views.{shown_texts};
 ghost use Rattle.star_plan.specs.Causes.{FailsBy};
 ghost use Rattle.star_plan.specs.Plan.{Plan};
-ghost use Rattle.star_plan.specs.Text.{ill_data, well_data, with_global};
+ghost use Rattle.star_plan.specs.Text.{ill_data, well_data};
 ghost use Rattle.star_report.specs.Fails.{AreFails};
 ghost use Rattle.star_outcome.specs.Kept.{AllGood, IsLoadBelow};
 ghost use Rattle.star_report.specs.Shelf.{LeadToFiles};
+ghost use Rattle.star_report.specs.Pages.{text_around};
 ghost use Rattle.star_report.specs.Shown.{IsLoadShown, IsShown, ReportsRun};
 ghost use Rattle.star_outcome.specs.Views.{IsModule};
 
 use crate::pages::{joined, pages_of, write_pages};
 use crate::wanted::Wanted;
-use serde_json::{Map, Value, json};
+use serde_json::{Value, json};
 use star_cause::Causes;
 use star_check::failed::{load_value, static_value};
 use star_label::files::Files as Labels;
 use star_outcome::module::{Ended, Module};
 use star_outcome::outcome::Run;
+use star_outcome::shown::Shown;
 use star_reading::code::code_text;
 use star_reading::reading::Reads;
 use star_reading::roots::roots_marked;
@@ -30,36 +32,14 @@ use star_text::Text;
 use std::alloc::{AllocError, Global};
 use std::thread::Threads;
 
+/// How many bytes of the text of a good module are the same in each.
+const AROUND: usize = 45;
+
 /// The options of a report: the members and modules that it shows, and how many threads at most write it.
 #[derive(Clone, Copy, Debug, PartialEq, Eq)]
 pub struct ReportOptions {
     pub wanted: Wanted,
     pub threads: usize,
-}
-
-/// Adds the name of a global with its text.
-fn put_global(
-    members: &mut Map<String, Value>,
-    alloc: Global,
-    global: &(String, Text),
-) -> Result<(), AllocError>
-    ensures { OnOk result (members_view members.new.entries
-        ≡ with_global (members_view members.old.entries) (string_bytes global.now.0, global.now.1)) }
-{
-    let text = Value::try_from_str(alloc, global.1.as_str())?;
-    serde_json::put(members, alloc, global.0.as_str(), text)?;
-    Ok(())
-}
-
-/// The name of each global with its text.
-fn global_texts(alloc: Global, shown: &[(String, Text)]) -> Result<Map<String, Value>, AllocError>
-    ensures { IfOk result (λ m. members_view m.entries ≡ fold with_global no_members (shown_texts shown.now)) }
-{
-    let mut members = Map::new(alloc);
-    for global in shown {
-        put_global(&mut members, alloc, global)?;
-    }
-    Ok(members)
 }
 
 /// Lines as strings.
@@ -88,16 +68,54 @@ fn failed_module(
     json!(in alloc; {"fault": code, "label": label, "line": line as u64, "lines": lines, "status": "fault"})
 }
 
+/// The text of a module that ran to its end, by the JSON of its globals, of its label and of its lines.
+fn text_around(
+    alloc: Global,
+    globals: &[u8],
+    label: &[u8],
+    lines: &[u8],
+) -> Result<Vec<u8>, AllocError>
+    ensures { IfOk result (λ t. t.items ≡ text_around globals.now label.now lines.now) }
+{
+    let room = globals
+        .len()
+        .saturating_add(label.len())
+        .saturating_add(lines.len());
+    let mut text = Vec::with_capacity(alloc, room.saturating_add(AROUND))?;
+    text.extend_from_slice(b"{\"globals\":")?;
+    text.extend_from_slice(globals)?;
+    text.extend_from_slice(b",\"label\":")?;
+    text.extend_from_slice(label)?;
+    text.extend_from_slice(b",\"lines\":")?;
+    text.extend_from_slice(lines)?;
+    text.extend_from_slice(b",\"status\":\"ok\"}")?;
+    Ok(text)
+}
+
+/// The text of a module that ran to its end. The JSON of its globals is there already.
+pub(crate) fn good_text(
+    alloc: Global,
+    label: &str,
+    shown: &Shown,
+    lines: &[Text],
+) -> Result<Vec<u8>, AllocError>
+    ensures { IfOk result (λ t. t.items ≡ compact_text (well_data label.now shown.now lines.now)) }
+{
+    let label = Value::try_from_str(alloc, label)?.to_vec(alloc)?;
+    let lines = Value::Array(strings(alloc, lines)?).to_vec(alloc)?;
+    text_around(alloc, shown.json(), label.as_slice(), lines.as_slice())
+}
+
 /// A module that ran to its end.
 fn good_module(
     alloc: Global,
     label: &str,
-    shown: &[(String, Text)],
+    shown: &Shown,
     lines: &[Text],
 ) -> Result<Value, AllocError>
-    ensures { IfOk result (λ v. view v ≡ well_data label.now (shown_texts shown.now) lines.now) }
+    ensures { IfOk result (λ v. view v ≡ well_data label.now shown.now lines.now) }
 {
-    let globals = Value::Object(global_texts(alloc, shown)?);
+    let globals = Value::Object(shown.members(alloc)?);
     let lines = Value::Array(strings(alloc, lines)?);
     json!(in alloc; {"globals": globals, "label": label, "lines": lines, "status": "ok"})
 }
@@ -145,7 +163,7 @@ fn load_module(
 ) -> Result<Value, AllocError>
     requires files { length causes.now ≡ length files.now }
     requires there { n < length files.now }
-    ensures { IfOk result (IsLoadShown files.now causes.now n line) }
+    ensures { IfOk result (λ v. IsLoadShown files.now causes.now n line (view v)) }
 {
     let label = files.label(n).text();
     let cause = causes.of(alloc, n)?;
@@ -161,7 +179,7 @@ pub(crate) fn module_value(
 ) -> Result<Value, AllocError>
     requires files { length causes.now ≡ length files.now }
     requires there { it.now.number < length files.now }
-    ensures { IfOk result (IsShown files.now causes.now it.now.number it.now.ended) }
+    ensures { IfOk result (λ v. IsShown files.now causes.now it.now.number it.now.ended (view v)) }
 {
     let label = files.label(it.number).text();
     match &it.ended {

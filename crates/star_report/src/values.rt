@@ -186,5 +186,5 @@ pub(crate) fn members_of<'b>(
 {
     let homes = body.stores.homes(alloc)?;
     let arena = Arena::new(alloc, files as u32);
-    values_among(alloc, &arena, &homes, n, &body.shown)
+    values_among(alloc, &arena, &homes, n, body.shown.globals())
 }

@@ -1,6 +1,9 @@
 //! The options of a report: the further members of each module, which modules are shown, and in
 //! which form.
 
+ghost use Rattle.std.specs.Prelude.{◌≡◌, true};
+ghost use Rattle.star_report.specs.Wanted.{IsPlain};
+
 /// The further members of each module, and which modules are shown.
 #[derive(Clone, Copy, Debug, PartialEq, Eq)]
 pub struct Wanted {
@@ -22,6 +25,13 @@ impl Wanted {
         steps: false,
         only_roots: false,
     };
+
+    /// Whether no further members of a module are wanted.
+    pub(crate) fn is_plain(self) -> bool
+        ensures { result ≡ true → IsPlain self }
+    {
+        !self.values && !self.loads && !self.steps
+    }
 }
 
 /// The output of a run.

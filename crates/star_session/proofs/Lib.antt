@@ -1,5 +1,5 @@
 pub mod Items
-pub mod Changes
+pub mod FilesAfter
 pub mod Ahead
 pub mod Takings
 pub mod Asked

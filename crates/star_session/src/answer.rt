@@ -3,11 +3,9 @@
 ghost use Rattle.std.specs.Prelude.{◌≡◌, ◌<◌, ◌≤◌, ◌⊎◌, All, IfErr, IfOk, IfSome, Ok, OnOk, length, map};
 ghost use Rattle.star_serve.specs.Serve.{IsOutputFor};
 ghost use Rattle.serde_json.specs.Data.{Data};
-ghost use Rattle.star_bundle.specs.Bundle.{within_limits};
-ghost use Rattle.star_bundle.specs.Refusal.{Gives};
 ghost use Rattle.star_bundle.specs.View.{asked_view};
+ghost use Rattle.star_memo.specs.Compared.{AreSame};
 ghost use Rattle.star_memo.specs.Readings.{AreReadings};
-ghost use Rattle.star_label.specs.Files.{limit_passed};
 ghost use Rattle.star_memo.specs.Lasting.{AreEndsNow};
 ghost use Rattle.star_memo.specs.Parses.{AreKept};
 ghost use Rattle.star_session.specs.Answers.{IsRefusalOf, IsReportOf, IsReportText, IsReported};
@@ -17,14 +15,14 @@ ghost use Rattle.star_session.specs.Changes.{change_of};
 ghost use Rattle.star_session.specs.Kept.{IsStanding};
 ghost use Rattle.star_session.specs.Requests.{IsIdText, asked_by, question_of};
 
+use crate::changes::files_after;
 use crate::refusal::line_of;
 use crate::request::Request;
-use crate::standing::{Last, Standing, Staying, changed};
+use crate::standing::{Last, Standing, Staying};
 use star_bundle::bundle::{AskedFor, asked_in};
 use star_bundle::error::ServeError;
-use star_label::error::LabelError;
 use star_label::files::Files;
-use star_label::label::Label;
+use star_memo::compared::Compared;
 use star_memo::lasting::first_to_run;
 use star_memo::outcomes::{Outcomes, Terms, free_ends};
 use star_memo::parses::Parses;
@@ -119,6 +117,7 @@ fn report_of<H: Threads + Wait + Sync>(
     ensures seen { staying.new.readings.prelude ≡ staying.old.readings.prelude }
     ensures outcomes { staying.new.outcomes ≡ staying.old.outcomes }
     ensures former { staying.new.former ≡ staying.old.former }
+    ensures same { staying.new.same ≡ staying.old.same }
 {
     let options = Options {
         roots: Vec::new(alloc),
@@ -183,6 +182,7 @@ fn run_changed<H: Threads + Wait + Sync>(
     ensures seen { staying.new.readings.prelude ≡ staying.old.readings.prelude }
     ensures outcomes { staying.new.outcomes ≡ staying.old.outcomes }
     ensures former { staying.new.former ≡ staying.old.former }
+    ensures same { staying.new.same ≡ staying.old.same }
 {
     let roots = mem::replace(&mut asked.roots, changed);
     let reported = report_of(rt, alloc, asked, staying, Wanted::NOTHING, loaders, steps);
@@ -210,6 +210,7 @@ fn keep_lasting<H: Threads + Wait + Sync>(
     requires terms { staying.old.outcomes.terms ≡ record { prelude = asked.old.prelude; steps = steps } }
     requires former { AreOutcomes before.now asked.old.prelude steps staying.old.former.items }
     requires alike { 0 < length staying.old.former.items → AreAlike before.now asked.old.files asked.old.prelude }
+    requires same { AreSame before.now asked.old.files staying.old.same.items }
     requires readings { AreReadings asked.old.files staying.old.readings }
     requires seen { staying.old.readings.prelude ≡ asked.old.prelude }
     ensures asked { asked.new ≡ asked.old }
@@ -222,7 +223,8 @@ fn keep_lasting<H: Threads + Wait + Sync>(
     ensures seen { staying.new.readings.prelude ≡ staying.old.readings.prelude }
 {
     let former = staying.former.as_slice();
-    let Some(changed) = first_to_run(alloc, before, &asked.files, former)? else {
+    let compared = Compared::new(before, &asked.files, staying.same.as_slice());
+    let Some(changed) = first_to_run(alloc, &compared, former)? else {
         return Ok(());
     };
     let ends = match run_changed(rt, alloc, asked, changed, staying, loaders, steps) {
@@ -232,25 +234,6 @@ fn keep_lasting<H: Threads + Wait + Sync>(
     staying.outcomes.add(ends);
     staying.add_lasting(rt, alloc, before, &asked.files)?;
     Ok(())
-}
-
-/// The files after changes.
-fn files_after(
-    alloc: Global,
-    before: &Files,
-    changes: Vec<(Label, Option<String>)>,
-) -> Result<Files, ServeError>
-    ensures files { IfOk result (λ files. files ≡ spec.files_after before.now (map change_of changes.items)) }
-    ensures limits { let after = spec.files_after before.now (map change_of changes.items) in
-        Gives (λ files. files) result (within_limits after (limit_passed after)) }
-{
-    match Files::new(alloc, changed(alloc, before, changes)?) {
-        Ok(files) => Ok(files),
-        Err(LabelError::TooMany) => Err(ServeError::TooMany),
-        Err(LabelError::TooLong) => Err(ServeError::TooLong),
-        Err(LabelError::Memory) => Err(ServeError::Memory),
-        Err(LabelError::BadLabel) => unreachable!(),
-    }
 }
 
 /// The files after a request, the values that are kept for them, the report that was asked for, and the files that it

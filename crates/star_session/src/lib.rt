@@ -9,6 +9,7 @@
 #![tactic(auto)]
 
 mod answer;
+mod changes;
 mod folder;
 pub mod lines;
 pub mod question;

@@ -11,6 +11,9 @@ use std::alloc::{AllocError, Global};
 /// The answer if there is no memory for another one.
 pub(crate) const NO_MEMORY: &str = "{\"id\":null,\"refused\":\"out of memory\"}\n";
 
+/// How many bytes of an answer are the same in each.
+const AROUND: usize = 12;
+
 /// The line of an answer: the id of its request, which is this JSON, and a member with this JSON.
 pub(crate) fn line_of(
     alloc: Global,
@@ -20,7 +23,11 @@ pub(crate) fn line_of(
 ) -> Result<Vec<u8>, AllocError>
     ensures { IfOk result (λ line. line.items ≡ spec.answer_line id.now name.now json.now) }
 {
-    let mut line = Vec::new(alloc);
+    let room = id
+        .len()
+        .saturating_add(name.len())
+        .saturating_add(json.len());
+    let mut line = Vec::with_capacity(alloc, room.saturating_add(AROUND))?;
     line.extend_from_slice(b"{\"id\":")?;
     line.extend_from_slice(id.as_bytes())?;
     line.extend_from_slice(b",\"")?;

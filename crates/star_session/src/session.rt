@@ -298,6 +298,7 @@ fn answer_lines<H: Threads + Wait + Sync, F: Repo + Copy, R: Source, W: Sink>(
     requires steps { (1 ≤ settings.now.defaults.steps) × (settings.now.defaults.steps ≤ 100000000) }
     ensures standing { IsStanding session.new.standing }
     ensures cut { OnOk result (IsCut session.new.lines) }
+    // It is long since a step is of the reader, the writer and the session, each before and after.
     ensures step { IfOk result (λ next. IsStepOf R.said W.taken (AnswersIn (F.says folder.now) settings.now)
         reader.old reader.new writer.old writer.new session.old session.new (is_some next)) }
     ensures reads { R.failed reader.new ≡ R.failed reader.old + reads_failed result }

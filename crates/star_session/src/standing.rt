@@ -1,8 +1,8 @@
 //! The files as the requests so far leave them, and the values that are kept for them.
 
-ghost use Rattle.std.specs.Prelude.{◌≡◌, ◌<◌, ◌≤◌, true, List, IfOk, IfSome, OnOk, length, map, option_map, string_bytes};
-ghost use Rattle.star_label.specs.Files.{File, file_of};
-ghost use Rattle.star_label.specs.View.{text_of};
+ghost use Rattle.std.specs.Prelude.{◌≡◌, ◌<◌, ◌≤◌, true, List, IfOk, IfSome, OnOk, length, map};
+ghost use Rattle.star_label.specs.Files.{File};
+ghost use Rattle.star_memo.specs.Compared.{AreSame};
 ghost use Rattle.star_memo.specs.Lasting.{AreEndsNow};
 ghost use Rattle.star_memo.specs.Outcomes.{AreAlike, AreOutcomes};
 ghost use Rattle.star_memo.specs.Parses.{AreKept};
@@ -13,18 +13,17 @@ ghost use Rattle.star_session.specs.Changes.{change_of};
 ghost use Rattle.star_session.specs.Kept.{AreKeptFor, IsStanding};
 ghost use Rattle.star_session.specs.Requests.{asked_by, question_of};
 
+use crate::changes::are_as;
 use crate::question::Question;
 use crate::request::Request;
-use star_label::error::LabelError;
 use star_label::files::Files;
-use star_label::label::Label;
+use star_memo::compared::{Compared, same_texts};
 use star_memo::lasting::Change;
 use star_memo::outcomes::{Outcomes, Terms, free_ends};
 use star_memo::parses::Parses;
 use star_memo::readings::{Arena, Readings};
 use star_outcome::good_end::GoodEnd;
 use std::alloc::{AllocError, Global};
-use std::collections::BTreeMap;
 use std::mem;
 use std::sync::Wait;
 use std::thread::Threads;
@@ -79,94 +78,12 @@ pub(crate) struct Staying<'t> {
     pub outcomes: Outcomes,
     /// The other outcomes of the files before, by the numbers of the files.
     pub former: Vec<Option<GoodEnd>>,
+    /// Whether a file has the text that it had before, by its number.
+    pub same: Vec<bool>,
     pub readings: Readings<'t>,
     pub arena: &'t Arena,
     /// The seed for the hashes of keys in each run.
     pub seed: u64,
-}
-
-/// A copy of a label.
-fn copied(alloc: Global, label: &Label) -> Result<Label, AllocError>
-    ensures { IfOk result (λ copy. text_of copy ≡ text_of label.now) }
-{
-    match Label::read(alloc, label.text(), "") {
-        Ok(label) => Ok(label),
-        Err(LabelError::Memory) => Err(AllocError),
-        Err(_) => unreachable!(),
-    }
-}
-
-/// The texts of files by their labels.
-fn texts_of(alloc: Global, files: &Files) -> Result<BTreeMap<Label, String>, AllocError>
-    ensures { IfOk result (λ texts. map file_of texts.entries ≡ files.now) }
-{
-    let mut texts = BTreeMap::new(alloc);
-    for n in 0..files.len() {
-        let text = String::from_str(alloc, files.text(n))?;
-        texts.insert(copied(alloc, files.label(n))?, text)?;
-    }
-    Ok(texts)
-}
-
-/// Puts the text of a change in its place, or takes the file away.
-fn change(
-    texts: &mut BTreeMap<Label, String>,
-    label: Label,
-    change: Option<String>,
-) -> Result<(), AllocError>
-    ensures { OnOk result (map file_of texts.new.entries
-        ≡ spec.changed (map file_of texts.old.entries) (text_of label) (option_map string_bytes change)) }
-{
-    match change {
-        Some(text) => {
-            texts.insert(label, text)?;
-        }
-        None => {
-            texts.remove(&label);
-        }
-    }
-    Ok(())
-}
-
-/// The texts after changes, one after another.
-pub(crate) fn changed(
-    alloc: Global,
-    files: &Files,
-    changes: Vec<(Label, Option<String>)>,
-) -> Result<BTreeMap<Label, String>, AllocError>
-    ensures { IfOk result (λ texts.
-        map file_of texts.entries ≡ spec.files_after files.now (map change_of changes.items)) }
-{
-    let mut texts = texts_of(alloc, files)?;
-    for (label, text) in changes {
-        change(&mut texts, label, text)?;
-    }
-    Ok(texts)
-}
-
-/// Whether a file is already as a change leaves it.
-fn is_as(files: &Files, label: &Label, text: &Option<String>) -> bool
-    ensures { result ≡ true
-        → spec.changed files.now (text_of label.now) (option_map string_bytes text.now) ≡ files.now }
-{
-    let count = files.len();
-    match (files.find(label), text) {
-        (Some(n), Some(text)) => n < count && files.text(n) == text.as_str(),
-        (None, None) => true,
-        _ => false,
-    }
-}
-
-/// Whether changes leave the files as they are.
-fn are_as(files: &Files, changes: &[(Label, Option<String>)]) -> bool
-    ensures { result ≡ true → spec.files_after files.now (map change_of changes.now) ≡ files.now }
-{
-    for change in changes {
-        if !is_as(files, &change.0, &change.1) {
-            return false;
-        }
-    }
-    true
 }
 
 impl KeptValues {
@@ -204,15 +121,16 @@ impl Staying<'_> {
         requires outcomes { let terms = self.old.outcomes.terms in
             AreOutcomes files.now terms.prelude terms.steps self.old.outcomes.all.items }
         requires reads { AreKnown files.now self.old.outcomes.terms.prelude self.old.readings.reads.all.items }
+        requires same { AreSame before.now files.now self.old.same.items }
         ensures ends { let terms = self.old.outcomes.terms in OnOk result
             (AreEndsNow files.now terms.prelude terms.steps self.new.outcomes.all.items) }
         ensures terms { self.new.outcomes.terms ≡ self.old.outcomes.terms }
         ensures parses { self.new.parses ≡ self.old.parses }
         ensures readings { self.new.readings ≡ self.old.readings }
     {
+        let compared = Compared::new(before, files, self.same.as_slice());
         let change = Change {
-            before,
-            files,
+            compared: &compared,
             former: self.former.as_slice(),
             ends: self.outcomes.all.as_slice(),
             reads: self.readings.reads.all.as_slice(),
@@ -313,16 +231,21 @@ impl<'t> Standing<'t> {
             0 < length s.former.items → AreAlike self.old.files files.now terms.prelude) }
         ensures prelude { IfOk result (λ s. s.readings.prelude ≡ terms.prelude) }
         ensures readings { IfOk result (λ s. AreReadings files.now s.readings) }
+        ensures same { IfOk result (λ s. AreSame self.old.files files.now s.same.items) }
     {
-        let parses = self.kept.parses.after(alloc, &self.files, files)?;
+        let same = same_texts(alloc, &self.files, files)?;
+        let compared = Compared::new(&self.files, files, same.as_slice());
+        let parses = self.kept.parses.after(alloc, &compared)?;
         let before = mem::replace(&mut self.kept.outcomes, Outcomes::new(alloc, terms));
-        let (outcomes, former) = before.after(rt, alloc, &self.files, files, terms, threads)?;
+        let (outcomes, former) = before.after(rt, alloc, &compared, terms, threads)?;
         let before = mem::replace(&mut self.readings, Readings::new(alloc, terms.prelude));
+        let readings = before.after(alloc, &compared, terms.prelude);
         Ok(Staying {
             parses,
             outcomes,
             former,
-            readings: before.after(alloc, &self.files, files, terms.prelude),
+            same,
+            readings,
             arena: self.arena,
             seed: self.kept.seed,
         })

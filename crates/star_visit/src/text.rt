@@ -463,6 +463,7 @@ impl Page {
     }
 
     fn say_three(&mut self, range: Range) -> Result<(), AllocError>
+        // It is long since it has each piece of the text, in order.
         ensures said { OnOk result ((string_bytes self.new.out) ≡ (string_bytes self.old.out)
             ++ signed_decimal range.start ++ codes ", " ++ signed_decimal range.stop ++ codes ", "
             ++ signed_decimal range.step) }

@@ -1,7 +1,8 @@
-use Rattle.std.proofs.Common.{◌≡◌, ◌<◌, List, Option, length, ap, subst, sym, ◌∙◌}
+use Rattle.std.proofs.Common.{◌≡◌, ◌<◌, Bool, Global, List, Option, Vec, length, ap, subst, sym, ◌∙◌}
 use Rattle.std.specs.Prelude.{IfSome}
 use Rattle.star_bundle.specs.declared.bundle.AskedFor.{AskedFor}
 use Rattle.star_outcome.specs.declared.good_end.GoodEnd.{GoodEnd}
+use Rattle.star_memo.specs.Compared.{AreSame}
 use Rattle.star_memo.specs.Lasting.{AreEndsNow}
 use Rattle.star_memo.specs.Outcomes.{AreAlike, AreOutcomes}
 use Rattle.star_memo.specs.Readings.{AreKnown}
@@ -60,3 +61,9 @@ returns-clause-ends g c =
     let terms : c.add.new.self.terms ≡ record { prelude = asked.prelude; steps = c.args.steps } = c.add.ensures.terms ∙ ap (λ (o : Outcomes). o.terms) c.run_changed.ensures.outcomes ∙ c.requires.terms in
     subst (λ (a : AskedFor). AreEndsNow a.files asked.prelude c.args.steps all) c.run_changed.ensures.asked
     (subst (λ (t : Terms). AreEndsNow c.run_changed.new.asked.files t.prelude t.steps all) terms c.in_ok-add_lasting.ensures.ends)
+
+pub add_lasting-requires-clause-same : goal.add_lasting-requires-clause-same
+add_lasting-requires-clause-same g c =
+    let asked = c.args.asked.now in
+    let same = subst (λ (marks : Vec Bool Global). AreSame c.args.before.now asked.files marks.items) (sym c.run_changed.ensures.same) c.requires.same in
+    subst (λ (a : AskedFor). AreSame c.args.before.now a.files c.run_changed.new.staying.same.items) (sym c.run_changed.ensures.asked) same

@@ -1,5 +1,5 @@
 use Rattle.std.proofs.Common.{arith, length, rules, ◌<◌}
-use Rattle.star_session.proofs.Changes.{one_more_text}
+use Rattle.star_session.proofs.FilesAfter.{one_more_text}
 use Rattle.star_session.proofs.question.are_same.Goals as goal
 
 pub loop-n-preserved : goal.loop-n-preserved

@@ -5,5 +5,5 @@ use Rattle.star_memo.proofs.outcomes.Outcomes.mark.Goals as goal
 
 pub returns-then-stays : goal.returns-then-stays
 returns-then-stays c =
-    one_marked c.args.before.now c.args.files.now c.args.self.now.all.items _ c.args.n c.requires
-    (subst (λ ms. IsStaying c.args.before.now c.args.files.now c.args.self.now.all.items ms c.args.n) c.deref.ensures.value (c.stays.ensures c.if-stays.true))
+    one_marked c.args.compared.now.before c.args.compared.now.files c.args.self.now.all.items _ c.args.n c.requires
+    (subst (λ ms. IsStaying c.args.compared.now.before c.args.compared.now.files c.args.self.now.all.items ms c.args.n) c.deref.ensures.value (c.stays.ensures c.if-stays.true))

@@ -7,16 +7,16 @@ use Rattle.star_memo.proofs.readings.Readings.forget_changed.Goals as goal
 use Rattle.star_memo.proofs.readings.Readings.forget_changed.Goals.{then-not-has_text, else-not-has_text}
 
 pub loop-n-init : goal.loop-n-init
-loop-n-init c = none_stay c.args.before.now c.args.files.now c.args.self.now
+loop-n-init c = none_stay c.args.compared.now.before c.args.compared.now.files c.args.self.now
 
 pub loop-n-preserved : goal.loop-n-preserved
 loop-n-preserved c =
-    let before = c.args.before.now in
-    let files = c.args.files.now in
+    let before = c.args.compared.now.before in
+    let files = c.args.compared.now.files in
     let old = c.args.self.now in
     let so_far = c.loop-n.invariant in
     let size = length_same before files c.requires in
-    let less : c.loop-n.n < length files = omega (arith, c.len-n-end.ensures.len, c.loop-n-test.true) in
+    let less : c.loop-n.n < length files = omega (arith, c.count-n-end.ensures.count, c.loop-n-test.true) in
     let other : c.has_text.result ≡ false → text_at before c.loop-n.n ≢ text_at files c.loop-n.n = λ no text. (let is = c.has_text.ensures.same (omega (arith, size, less)) less text in let none : ⊥ = cc (is, no) in none) in
     let Next = λ (r : Readings). StayBelow before files (c.loop-n.n + 1) old r in
     elim c.if-not-has_text.branch [
@@ -30,5 +30,5 @@ loop-n-preserved c =
 
 pub returns-clause-left : goal.returns-clause-left
 returns-clause-left c =
-    let all : length c.args.files.now ≤ c.loop-n.n = omega (arith, c.len-n-end.ensures.len, c.loop-n-test.false) in
-    all_stay c.args.before.now c.args.files.now c.loop-n.n c.args.self.now c.loop-n.self c.requires all c.loop-n.invariant
+    let all : length c.args.compared.now.files ≤ c.loop-n.n = omega (arith, c.count-n-end.ensures.count, c.loop-n-test.false) in
+    all_stay c.args.compared.now.before c.args.compared.now.files c.loop-n.n c.args.self.now c.loop-n.self c.requires all c.loop-n.invariant
