@@ -244,7 +244,7 @@ pub fn lay(
 ) -> Result<Vec<Token>, SyntaxFault>
     ensures { spec.Answers (spec.lay line at (0 ∷ []) 0 (spec.lines 0 pieces.now)) result }
 {
-    let mut out = Vec::new(alloc);
+    let mut out = Vec::with_capacity(alloc, pieces.len())?;
     let mut opened = Vec::new(alloc);
     opened.push(0)?;
     let mut rest = pieces;

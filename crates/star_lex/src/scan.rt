@@ -317,13 +317,17 @@ pub fn line_ends(text: &[u8]) -> usize
     count
 }
 
+/// The most pieces for which room is made beforehand. Most texts have at most one piece for each three bytes, so their
+/// row never grows: a row that grows is moved, and leaves holes in the memory of a process that stays.
+const MOST_ROOM: usize = 1 << 20;
+
 /// The pieces of a text, whose texts, joined, are the text.
 pub fn scan(alloc: Global, text: &[u8]) -> Result<Vec<Piece>, AllocError>
     ensures value { IfOk result (λ found. found.items ≡ pieces.pieces text.now) }
     ensures joined { IfOk result (λ found. pieces.joined text.now found.items ≡ text.now) }
     ensures tiles { IfOk result (λ found. pieces.Tiles 0 found.items (length text.now)) }
 {
-    let mut found = Vec::new(alloc);
+    let mut found = Vec::with_capacity(alloc, (text.len() / 2).min(MOST_ROOM))?;
     let mut rest = text;
     let mut line = 1;
     while !rest.is_empty() {

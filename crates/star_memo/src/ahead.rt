@@ -66,13 +66,13 @@ impl<'s, 't, 'u> Parser<'s, 't, 'u> {
     }
 
     /// Parses one text after another, as their files are handed out.
-    fn parse_found<R: Wait>(&self, rt: &R, search: &Search) -> Made
+    fn parse_found<R: Wait>(&self, rt: &R, search: &Search, thread: usize) -> Made
         ensures { IfOk result (λ made. AreMade self.now.files.now made.items) }
     {
         let mut made = Vec::new(self.alloc);
         let mut parsed = None;
         for _ in rt.forever() {
-            let Some(n) = search.take(rt, parsed)? else {
+            let Some(n) = search.take(rt, thread, parsed)? else {
                 return Ok(made);
             };
             parsed = Some((n, self.parse_into(&mut made, n)?));
@@ -82,10 +82,10 @@ impl<'s, 't, 'u> Parser<'s, 't, 'u> {
 
     /// As `parse_found`, for one of several threads. If it fails, it leaves the search, so that no other thread waits for
     /// it.
-    fn parse_share<R: Wait>(&self, rt: &R, search: &Search) -> Made
+    fn parse_share<R: Wait>(&self, rt: &R, search: &Search, thread: usize) -> Made
         ensures { IfOk result (λ made. AreMade self.now.files.now made.items) }
     {
-        let made = self.parse_found(rt, search);
+        let made = self.parse_found(rt, search, thread);
         if made.is_err() {
             search.leave(rt);
         }
@@ -104,9 +104,9 @@ impl<'s, 't, 'u> Parser<'s, 't, 'u> {
         Ok(sizes)
     }
 
-    /// The search for the files that some files reach.
-    pub(crate) fn search(&self, first: Vec<usize>) -> Result<Search, AllocError> {
-        Search::new(self.alloc, self.sizes()?, first)
+    /// The search by `threads` threads for the files that some files reach.
+    pub(crate) fn search(&self, first: Vec<usize>, threads: usize) -> Result<Search, AllocError> {
+        Search::new(self.alloc, self.sizes()?, first, threads)
     }
 
     /// Parses the texts of the files that are handed out, by `threads` threads.
@@ -122,9 +122,9 @@ impl<'s, 't, 'u> Parser<'s, 't, 'u> {
             rt,
             self.alloc,
             threads,
-            &|_thread: usize| -> Result<Vec<(usize, Parse)>, AllocError>
+            &|thread: usize| -> Result<Vec<(usize, Parse)>, AllocError>
                 ensures { IfOk result (λ made. AreMade self.entry.now.files.now made.items) }
-            { self.parse_share(rt, search) },
+            { self.parse_share(rt, search, thread) },
         )
     }
 }

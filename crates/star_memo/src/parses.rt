@@ -18,9 +18,12 @@ use std::alloc::{AllocError, Global};
 use std::sync::{Arc, Wait};
 use std::thread::Threads;
 
-/// Below this many, texts that are not parsed yet are parsed by one thread, reached or not. One thread more may parse
-/// for each further group of this many.
-const TEXTS_A_THREAD: usize = 16;
+/// Below this many, texts that are not parsed yet are parsed by one thread, reached or not.
+const TEXTS_FOR_THREADS: usize = 16;
+
+/// If several threads parse, there are at least this many texts for each. So mostly as many threads parse as run files,
+/// and each takes about as much memory in one request as in the next.
+const TEXTS_A_THREAD: usize = 4;
 
 /// The result of parsing a text: its tree, or its fault, which is not want of memory.
 #[derive(Drop)]
@@ -225,7 +228,7 @@ impl Parses {
             reads,
             parses: views.as_slice(),
         };
-        let search = parser.search(first)?;
+        let search = parser.search(first, threads)?;
         parser.parse_shares(rt, &search, threads)
     }
 
@@ -248,7 +251,7 @@ impl Parses {
             → Has self.new.all.items n) }
     {
         let missing = self.missing();
-        if missing < TEXTS_A_THREAD {
+        if missing < TEXTS_FOR_THREADS {
             return self.parse_rest(alloc, files);
         }
         let threads = threads.min(missing / TEXTS_A_THREAD);

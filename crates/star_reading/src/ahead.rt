@@ -15,8 +15,11 @@ use std::sync::Wait;
 use std::thread;
 use std::thread::Threads;
 
-/// One thread more may read for each further group of this many files.
-const FILES_A_THREAD: usize = 16;
+/// Below this many files, one thread is faster than starting others.
+const FILES_FOR_THREADS: usize = 16;
+
+/// If several threads read, there are at least this many files for each.
+const FILES_A_THREAD: usize = 4;
 
 /// The results that one thread has read, by the numbers of the files. The error: an allocation failed.
 type Readings<'t> = Result<Vec<(usize, Read<'t>)>, AllocError>;
@@ -52,7 +55,7 @@ impl<'s, 't> Reader<'s, 't> {
     }
 
     /// Reads one file after another, as they are handed out.
-    fn read_found<R: Wait>(&self, rt: &R, search: &Search) -> Readings<'t>
+    fn read_found<R: Wait>(&self, rt: &R, search: &Search, thread: usize) -> Readings<'t>
         requires parses { AreParsesOf self.now.files.now self.now.parses.now }
         ensures { IfOk result (λ reads.
             AreAllReadAs self.now.files.now (option_copied self.now.prelude) reads.items) }
@@ -60,7 +63,7 @@ impl<'s, 't> Reader<'s, 't> {
         let mut reads = Vec::new(self.alloc);
         let mut read = None;
         for _ in rt.forever() {
-            let Some(n) = search.take(rt, read)? else {
+            let Some(n) = search.take(rt, thread, read)? else {
                 return Ok(reads);
             };
             read = Some((n, self.read_into(rt, &mut reads, n)?));
@@ -70,12 +73,12 @@ impl<'s, 't> Reader<'s, 't> {
 
     /// As `read_found`, for one of several threads. If it fails, it leaves the search, so that no other thread waits
     /// for it.
-    fn read_share<R: Wait>(&self, rt: &R, search: &Search) -> Readings<'t>
+    fn read_share<R: Wait>(&self, rt: &R, search: &Search, thread: usize) -> Readings<'t>
         requires parses { AreParsesOf self.now.files.now self.now.parses.now }
         ensures { IfOk result (λ reads.
             AreAllReadAs self.now.files.now (option_copied self.now.prelude) reads.items) }
     {
-        let reads = self.read_found(rt, search);
+        let reads = self.read_found(rt, search, thread);
         if reads.is_err() {
             search.leave(rt);
         }
@@ -97,11 +100,11 @@ impl<'s, 't> Reader<'s, 't> {
             rt,
             self.alloc,
             threads,
-            &|_thread: usize| -> Result<Vec<(usize, Read)>, AllocError>
+            &|thread: usize| -> Result<Vec<(usize, Read)>, AllocError>
                 requires { AreParsesOf self.now.files.now self.now.parses.now }
                 ensures { IfOk result (λ reads.
                     AreAllReadAs self.entry.now.files.now (option_copied self.entry.now.prelude) reads.items) }
-            { self.read_share(rt, search) },
+            { self.read_share(rt, search, thread) },
         )
     }
 
@@ -117,12 +120,12 @@ impl<'s, 't> Reader<'s, 't> {
     {
         let count = self.files.len();
         let mut ahead = Found::new(self.alloc, count)?;
-        let threads = threads.min(count / FILES_A_THREAD + 1);
-        if threads < 2 {
+        let threads = threads.min(count / FILES_A_THREAD);
+        if threads < 2 || count < FILES_FOR_THREADS {
             return Ok(ahead);
         }
         let roots = self.roots.iter().copied().collect(self.alloc)?;
-        let search = Search::new(self.alloc, sizes(self.alloc, self.files)?, roots)?;
+        let search = Search::new(self.alloc, sizes(self.alloc, self.files)?, roots, threads)?;
         let shares = self.read_shares(rt, &search, threads)?;
         ahead.add_shares(shares)?;
         Ok(ahead)

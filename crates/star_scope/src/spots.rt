@@ -1,12 +1,16 @@
 //! `Spots`: the table from the number of a name's token to its spot.
 
-ghost use Rattle.std.specs.Prelude.{◌≡◌, [], Option, Some, OnOk, IfSome, slice_get};
+ghost use Rattle.std.specs.Prelude.{◌≡◌, [], Option, Some, IfOk, OnOk, IfSome, slice_get};
 ghost use Rattle.star_scope.specs.declared.spot.Spot.{Spot as OneSpot};
 ghost use Rattle.star_scope.specs.Spots.{IsPutAt, Keeps, found, spot_at, spot_in};
 
 use crate::spot::Spot;
 use std::alloc::{AllocError, Global};
 use std::marker::Model;
+
+/// The number of entries for which a table has room before it has any: 2 KiB. A row that begins with a few bytes may
+/// begin with bytes that another thread had allocated, and then grows in that thread's part of the memory.
+const FIRST_ROOM: usize = 256;
 
 /// The entry of the table for a token, in eight bytes. A spot with numbers too large for that is `Far`: it is in the
 /// row `far`.
@@ -115,13 +119,13 @@ fn spot_in(entry: Entry, far: &[Option<Spot>], token: usize) -> Option<Spot>
 impl Spots {
     /// A table with no spots.
     #[tactic(auto, unfolding(crate::specs::Spots::spots_of))]
-    pub(crate) fn new(alloc: Global) -> Spots
-        ensures { result ≡ [] }
+    pub(crate) fn new(alloc: Global) -> Result<Spots, AllocError>
+        ensures { IfOk result (λ spots. spots ≡ []) }
     {
-        Spots {
-            entries: Vec::new(alloc),
+        Ok(Spots {
+            entries: Vec::with_capacity(alloc, FIRST_ROOM)?,
             far: Vec::new(alloc),
-        }
+        })
     }
 
     /// Gives back the memory that the entries do not need.

@@ -546,7 +546,7 @@ fn place_all(
     ensures spots { IfOk result (λ placed. HasSpots scope.now.blocks.now scope.now.prelude statements.now placed) }
 {
     let mut placed = ResolvedNames {
-        spots: Spots::new(alloc),
+        spots: Spots::new(alloc)?,
         first: None,
     };
     place_statements(&mut placed, scope, &Chain::of_file(), statements)?;

@@ -10,7 +10,7 @@ unfolding pieces
 loop-rest-init c =
     let text = c.args.text.now in
     let e : 0 ≡ length text - length text = omega arith in
-    record { whole = rw c.new-found.ensures.items (ap (λ n. pieces_from 0 1 n text) e); joined = rw c.new-found.ensures.items refl; tiles = rw c.new-found.ensures.items e; rest = rw (← e) refl; within = omega arith; line = omega arith }
+    record { whole = rw c.in_ok-found.ensures.items (ap (λ n. pieces_from 0 1 n text) e); joined = rw c.in_ok-found.ensures.items refl; tiles = rw c.in_ok-found.ensures.items e; rest = rw (← e) refl; within = omega arith; line = omega arith }
 
 pub loop-rest-preserved : goal.loop-rest-preserved
 loop-rest-preserved c =

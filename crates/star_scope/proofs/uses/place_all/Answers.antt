@@ -9,10 +9,10 @@ use Rattle.star_scope.proofs.StatementForms.{of_file}
 use Rattle.star_scope.proofs.uses.place_all.Goals as goal
 
 whole : (c : goal.In_ok-place_statements)
-    → Places c.args.scope.now (uses c.args.statements.now) (record { spots = c.new.result; first = None }) c.place_statements.new.placed
+    → Places c.args.scope.now (uses c.args.statements.now) (record { spots = c.in_ok-new.field-0; first = None }) c.place_statements.new.placed
 whole c =
     let scope = c.args.scope.now in
-    let a : ResolvedNames = record { spots = c.new.result; first = None } in
+    let a : ResolvedNames = record { spots = c.in_ok-new.field-0; first = None } in
     let z = c.place_statements.new.placed in
     place_as scope _ _ a z (of_file c.args.statements.now)
     (place_part (λ k. all_uses in_statement c.args.statements.now k) scope c.of_file.result (0 ∷ []) a z c.of_file.ensures c.in_ok-place_statements.ensures)
