@@ -36,6 +36,7 @@ fn run_with<R: Threads + Wait + Sync>(
         trees: &trees,
         parses: parses.as_slice(),
         ends: ends.as_slice(),
+        readers: BY_TWO.loaders,
     };
     let options = RunOptions { roots, ..BY_TWO };
     Ok(run_in(rt, alloc, files, known, &mut reads, options, gate)?)

@@ -29,4 +29,6 @@ pub struct Known<'k, 't> {
     pub parses: &'k [Option<Parsed<'t>>],
     /// Good ends, by the numbers of their files: these files are not run again, but loaded and published as ever.
     pub ends: &'k [Option<GoodEnd>],
+    /// How many threads may read files.
+    pub readers: usize,
 }

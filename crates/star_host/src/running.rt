@@ -350,6 +350,7 @@ pub fn run<R: Threads + Wait + Sync, G: Gate + Sync>(
         trees: &trees,
         parses: parses.as_slice(),
         ends: &[],
+        readers: options.loaders,
     };
     run_in(rt, alloc, files, known, &mut reads, options, gate)
 }
@@ -406,13 +407,14 @@ pub fn run_in<'t, R: Threads + Wait + Sync, G: Gate + Sync>(
         loaders,
         ..
     } = options;
+    let readers = known.readers;
     let texts = Texts {
         files,
         trees: known.trees,
         parses: known.parses,
     };
     let before = mem::replace(reads, Reads::new(alloc));
-    *reads = read_parsed(rt, alloc, texts, before, roots, prelude, loaders)?;
+    *reads = read_parsed(rt, alloc, texts, before, roots, prelude, readers)?;
     gate.before_bodies(read_count(reads));
     let options = RunOptions {
         loaders: enough(loaders, reads, known.ends),

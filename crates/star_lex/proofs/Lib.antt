@@ -1,5 +1,5 @@
-mod Layouts
 mod Order
 mod Parts
+mod Places
 mod Scanned
 mod Signs

@@ -216,7 +216,7 @@ order_lay line hi ts d (l ∷ ls) at out t w =
     order_then at t.mid t.next hi (line_tokens ts l) (lay line hi (opened_after ts l) l.depth ls) out t.gap
     (λ front m. order_line ts l at t.mid front t.tiles m) (λ body u. order_lay line hi (opened_after ts l) l.depth ls t.next body t.rest u) w
 
-pub in_order : (line hi : ℕ) (cs : List Piece) (r : Result (Vec Token Global) SyntaxFault) → Tiles 0 cs hi → Answers (lay line hi (0 ∷ []) 0 (lines 0 cs)) r
+pub in_order : (line hi : ℕ) (cs : List Piece) (r : Result (Vec Token Global) SyntaxFault) → IfOk r (λ v. Tiles 0 cs hi) → Answers (lay line hi (0 ∷ []) 0 (lines 0 cs)) r
     → IfOk r (λ v. InOrder 0 v.items hi)
 in_order line hi cs (Ok v) t a = order_lay line hi (0 ∷ []) 0 (lines 0 cs) 0 v.items (tile_lines 0 cs 0 hi t) a
 in_order line hi cs (Err e) t a = tt

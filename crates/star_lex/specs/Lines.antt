@@ -173,14 +173,6 @@ Pushes r (Ok u) new = r ≡ Ok new
 Pushes r (Err Memory) new = Unit {0}
 Pushes r (Err e) new = r ≡ Err e
 
--- how many pieces the first of the lines has, and the depth after it
-abbrev pub counted : ℕ → ℕ × ℕ → ℕ × ℕ
-counted n p = (n + p.0, p.1)
-
-abbrev pub line_size : ℕ → List Piece → ℕ × ℕ
-line_size d [] = (0, d)
-line_size d (c ∷ cs) = if ends_line d c.kind then (0, 0) else counted 1 (line_size (depth_after d c.kind) cs)
-
 -- the spans of tokens are in order between two places: each begins where the one before it ends, or later
 abbrev pub InOrder : ℕ → List Token → ℕ → Type 0
 InOrder lo [] hi = lo ≤ hi

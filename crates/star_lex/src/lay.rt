@@ -1,15 +1,29 @@
-//! The second pass of the lexer: joins lines, judges indentation and makes tokens of pieces. `lay` has the loop.
+//! Makes the tokens of a text: cuts one piece after the other, joins lines and judges indentation. `lay` has the loop,
+//! and `step` reads one piece. There is no row of pieces, which would take more memory than the tokens.
 //!
 //! Open indentations are a list with the innermost first, as in the definition. Depth n takes a line of n spaces, so
-//! the pass stays linear.
+//! the work stays linear.
 
-ghost use Rattle.std.specs.Prelude.{◌≡◌, ◌+◌, ◌-◌, ◌<◌, ◌≤◌, ◌^◌, ◌∷◌, ◌++◌, [], length, replicate, IfSome, IfOk};
+ghost use Rattle.std.specs.Prelude.{◌≡◌, ◌+◌, ◌-◌, ◌<◌, ◌≤◌, ◌^◌, ◌∷◌, ◌++◌, [], ℕ, List, length, replicate, IfSome, IfOk};
+ghost use Rattle.star_lex.specs.declared.lay.Place.TheVariants.{Front, Inside};
 ghost use Rattle.star_lex.specs.Lines as spec;
-ghost use Rattle.star_lex.specs.Lines.{Pushes};
+ghost use Rattle.star_lex.specs.Lines.{Answers, Pushes};
+ghost use Rattle.star_lex.specs.Pieces.{Tiles, pieces};
+ghost use Rattle.star_lex.specs.Places as places;
+ghost use Rattle.star_lex.specs.Places.{Reads};
 
-use crate::scan::{Piece, PieceKind};
+use crate::scan::{Piece, PieceKind, piece_at};
 use crate::token::{Kind, Punctuator, Span, SyntaxFault, Token};
 use std::alloc::Global;
+
+/// Where in a logical line the lexer is.
+#[derive(Clone, Copy)]
+pub enum Place {
+    /// Before the first token. This is the first piece of the line, if it has one so far.
+    Front(Option<Piece>),
+    /// Past the indentation: so many brackets are open, and this piece is the last token, if the line has one so far.
+    Inside { depth: usize, before: Option<Piece> },
+}
 
 fn depth_after(depth: usize, kind: PieceKind) -> usize
     requires { depth + 1 < 2 ^ 64 }
@@ -29,31 +43,6 @@ fn depth_after(depth: usize, kind: PieceKind) -> usize
         ) => depth.saturating_sub(1),
         _ => depth,
     }
-}
-
-fn ends_line(depth: usize, kind: PieceKind) -> bool
-    ensures { result ≡ spec.ends_line depth kind }
-{
-    depth == 0 && matches!(kind, PieceKind::LineEnd)
-}
-
-/// How many pieces the first logical line has, and the depth after it.
-fn line_size(pieces: &[Piece]) -> (usize, usize)
-    ensures value { result ≡ spec.line_size 0 pieces.now }
-    ensures within { result.0 ≤ length pieces.now }
-{
-    let mut rest = pieces;
-    let mut size = 0;
-    let mut depth = 0;
-    while let [piece, more @ ..] = rest {
-        if ends_line(depth, piece.kind) {
-            return (size, 0);
-        }
-        depth = depth_after(depth, piece.kind);
-        size += 1;
-        rest = more;
-    }
-    (size, depth)
 }
 
 /// How many of the open indentations, the innermost first, a width closes; `None` if none of them equals it.
@@ -76,29 +65,10 @@ fn closing(opened: &[usize], width: usize) -> Option<usize>
     None
 }
 
-/// The first piece of a line that is not a blank, a comment or a line end.
-fn first_significant(line: &[Piece]) -> Option<Piece>
-    ensures { result ≡ spec.first_significant line.now }
+/// How many spaces lead a line that begins with a piece; `None` if there is a tab among them.
+fn width(first: Piece) -> Option<usize>
+    ensures { result ≡ spec.width (first ∷ []) }
 {
-    let mut rest = line;
-    while let [piece, more @ ..] = rest {
-        match piece.kind {
-            PieceKind::Blank | PieceKind::TabbedBlank | PieceKind::Comment | PieceKind::LineEnd =>
-                {}
-            _ => return Some(*piece),
-        }
-        rest = more;
-    }
-    None
-}
-
-/// How many spaces lead a line; `None` if there is a tab among them.
-fn width(line: &[Piece]) -> Option<usize>
-    ensures { result ≡ spec.width line.now }
-{
-    let [first, ..] = line else {
-        return Some(0);
-    };
     match first.kind {
         PieceKind::TabbedBlank => None,
         PieceKind::Blank => Some(first.span.end.saturating_sub(first.span.start)),
@@ -151,31 +121,14 @@ fn indent(
     push_times(out, empty_token(Kind::Outdent, line, at), count)
 }
 
-/// Pushes the tokens of a line, with the NEWLINE after the last if the line ends at depth 0.
-#[tactic(auto, using(crate::proofs::Layouts::onto_onto))]
-fn push_tokens(out: &mut Vec<Token>, line: &[Piece], depth: usize) -> Result<(), SyntaxFault>
-    ensures { Pushes (spec.onto out.old.items (spec.tokens depth None line.now)) result out.new.items }
+/// Pushes the NEWLINE of a line that ends at depth 0, if the line has a last token.
+fn push_newline(
+    out: &mut Vec<Token>,
+    depth: usize,
+    before: Option<Piece>,
+) -> Result<(), SyntaxFault>
+    ensures { Pushes (Ok (out.old.items ++ spec.newline depth before)) result out.new.items }
 {
-    let mut rest = line;
-    let mut before: Option<Piece> = None;
-    while let [piece, more @ ..] = rest {
-        match piece.kind {
-            PieceKind::Blank | PieceKind::TabbedBlank | PieceKind::Comment | PieceKind::LineEnd =>
-                {}
-            PieceKind::Lexeme(kind) => {
-                let (line, span) = (piece.line, piece.span);
-                out.push(Token { kind, line, span })?;
-                before = Some(*piece);
-            }
-            PieceKind::Continuation => {
-                if before.is_none() {
-                    return Err(SyntaxFault::BadToken { line: piece.line });
-                }
-            }
-            PieceKind::Bad => return Err(SyntaxFault::BadToken { line: piece.line }),
-        }
-        rest = more;
-    }
     match before {
         Some(piece) if depth == 0 => {
             out.push(empty_token(Kind::Newline, piece.last, piece.span.end))?;
@@ -185,36 +138,81 @@ fn push_tokens(out: &mut Vec<Token>, line: &[Piece], depth: usize) -> Result<(),
     }
 }
 
-/// Pushes the tokens of a logical line with the tokens of its indentation; nothing if the line has only blanks and
-/// comments.
-#[tactic(auto, using(crate::proofs::Layouts::onto_onto))]
-fn push_line(
+/// Reads a piece after the indentation of its line was judged.
+fn go_on(
+    out: &mut Vec<Token>,
+    depth: usize,
+    before: Option<Piece>,
+    piece: Piece,
+) -> Result<Place, SyntaxFault>
+    requires { depth + 1 < 2 ^ 64 }
+    ensures tokens { (opened : List ℕ)
+        → Reads out.old.items opened (Inside depth before) piece result out.new.items opened }
+    ensures near { IfOk result (λ place. places.depth_of place ≤ depth + 1) }
+{
+    match piece.kind {
+        PieceKind::LineEnd if depth == 0 => {
+            push_newline(out, depth, before)?;
+            Ok(Place::Front(None))
+        }
+        PieceKind::Blank | PieceKind::TabbedBlank | PieceKind::Comment | PieceKind::LineEnd => {
+            Ok(Place::Inside { depth, before })
+        }
+        PieceKind::Lexeme(kind) => {
+            let (line, span) = (piece.line, piece.span);
+            out.push(Token { kind, line, span })?;
+            Ok(Place::Inside {
+                depth: depth_after(depth, piece.kind),
+                before: Some(piece),
+            })
+        }
+        PieceKind::Continuation if before.is_some() => Ok(Place::Inside { depth, before }),
+        PieceKind::Continuation => Err(SyntaxFault::BadToken { line: piece.line }),
+        PieceKind::Bad => Err(SyntaxFault::BadToken { line: piece.line }),
+    }
+}
+
+/// Reads a piece before the first token of its line. One that is not a blank, a comment or a line end has the
+/// indentation judged, by the first piece of the line.
+fn begin(
     out: &mut Vec<Token>,
     opened: &mut Vec<usize>,
-    line: &[Piece],
-    depth: usize,
-) -> Result<(), SyntaxFault>
-    ensures tokens { Pushes (spec.onto out.old.items (spec.line_tokens opened.old.items (spec.line_of line.now depth)))
-        result out.new.items }
-    ensures opened { IfOk result (λ _. opened.new.items
-        ≡ spec.opened_after opened.old.items (spec.line_of line.now depth)) }
+    first: Option<Piece>,
+    piece: Piece,
+) -> Result<Place, SyntaxFault>
+    ensures tokens { Reads out.old.items opened.old.items (Front first) piece result out.new.items opened.new.items }
+    ensures near { IfOk result (λ place. places.depth_of place ≤ 1) }
 {
-    let Some(first_significant) = first_significant(line) else {
-        return Ok(());
+    let lead = first.unwrap_or(piece);
+    match piece.kind {
+        PieceKind::LineEnd => return Ok(Place::Front(None)),
+        PieceKind::Blank | PieceKind::TabbedBlank | PieceKind::Comment => {
+            return Ok(Place::Front(Some(lead)));
+        }
+        _ => {}
+    }
+    let Some(width) = width(lead) else {
+        return Err(SyntaxFault::BadIndent { line: piece.line });
     };
-    let Some(width) = width(line) else {
-        return Err(SyntaxFault::BadIndent {
-            line: first_significant.line,
-        });
-    };
-    indent(
-        out,
-        opened,
-        width,
-        first_significant.line,
-        first_significant.span.start,
-    )?;
-    push_tokens(out, line, depth)
+    indent(out, opened, width, piece.line, piece.span.start)?;
+    go_on(out, 0, None, piece)
+}
+
+/// Reads a piece: pushes its tokens, and returns the place after it.
+fn step(
+    out: &mut Vec<Token>,
+    opened: &mut Vec<usize>,
+    place: Place,
+    piece: Piece,
+) -> Result<Place, SyntaxFault>
+    requires { places.depth_of place + 1 < 2 ^ 64 }
+    ensures tokens { Reads out.old.items opened.old.items place piece result out.new.items opened.new.items }
+    ensures near { IfOk result (λ after. places.depth_of after ≤ places.depth_of place + 1) }
+{
+    match place {
+        Place::Front(first) => begin(out, opened, first, piece),
+        Place::Inside { depth, before } => go_on(out, depth, before, piece),
+    }
 }
 
 /// Pushes the tokens at the end of the text: the closing indentations and the end itself.
@@ -235,29 +233,46 @@ fn finish(
     Ok(())
 }
 
-/// The tokens of pieces; `line` and `at` are the line and the place of the end of the text.
-pub fn lay(
-    alloc: Global,
-    pieces: &[Piece],
+/// Reads the end of the text, which is at `at` on the line `line`.
+fn end(
+    out: &mut Vec<Token>,
+    opened: &[usize],
+    place: Place,
     line: usize,
     at: usize,
-) -> Result<Vec<Token>, SyntaxFault>
-    ensures { spec.Answers (spec.lay line at (0 ∷ []) 0 (spec.lines 0 pieces.now)) result }
+) -> Result<(), SyntaxFault>
+    ensures { Pushes (spec.onto out.old.items (places.rest_of line at place opened.now [])) result out.new.items }
 {
-    let mut out = Vec::with_capacity(alloc, pieces.len())?;
-    let mut opened = Vec::new(alloc);
-    opened.push(0)?;
-    let mut rest = pieces;
-    'lines: loop {
-        let (size, depth) = line_size(rest);
-        let (first, after) = rest.split_at(size);
-        push_line(&mut out, &mut opened, first, depth)?;
-        match after {
-            [] => {
-                finish(&mut out, &opened, depth, line, at)?;
-                return Ok(out);
-            }
-            [_, others @ ..] => rest = others,
+    match place {
+        Place::Front(_) => finish(out, opened, 0, line, at),
+        Place::Inside { depth, before } => {
+            push_newline(out, depth, before)?;
+            finish(out, opened, depth, line, at)
         }
     }
+}
+
+/// The most tokens for which room is made beforehand. Most texts have at most one token for each four bytes, so their
+/// row never grows: a row that grows is moved, and leaves holes in the memory of a process that stays.
+const MOST_ROOM: usize = 1 << 18;
+
+/// The tokens of a text; `last` is the line of its end.
+pub fn lay(alloc: Global, text: &[u8], last: usize) -> Result<Vec<Token>, SyntaxFault>
+    ensures value { Answers (spec.lay last (length text.now) (0 ∷ []) 0 (spec.lines 0 (pieces text.now))) result }
+    ensures tiles { IfOk result (λ _. Tiles 0 (pieces text.now) (length text.now)) }
+{
+    let mut out = Vec::with_capacity(alloc, (text.len() / 4).min(MOST_ROOM))?;
+    let mut opened = Vec::new(alloc);
+    opened.push(0)?;
+    let mut place = Place::Front(None);
+    let mut line = 1;
+    let mut at = 0;
+    while at < text.len() {
+        let piece = piece_at(text, line, at);
+        place = step(&mut out, &mut opened, place, piece)?;
+        line = piece.last;
+        at = piece.span.end;
+    }
+    end(&mut out, &opened, place, last, text.len())?;
+    Ok(out)
 }

@@ -1,10 +1,14 @@
 //! The lexer: the tokens of a Starlark file, or its first fault (`docs/LANGUAGE.md`, "Tokens").
 //!
-//! It works in two passes. Each takes time in proportion to the text, and neither copies it:
+//! It goes over the text piece by piece and makes the tokens as it goes, in time in proportion to the text. It does not
+//! copy the text, and the only row that it makes is that of the tokens:
 //!
-//! - `scan::scan` cuts the bytes into pieces: names, numbers, strings, signs, blanks, comments, line ends.
-//! - `lay::lay` joins the pieces into logical lines, judges their indentation, and returns the tokens, or the first
-//!   fault with its line.
+//! - `scan::piece_at` cuts the next piece: a name, a number, a string, a sign, blanks, a comment or a line end.
+//! - `lay::lay` has the loop. It keeps its place in the logical line and the open indentations. For each piece
+//!   `lay::step` pushes the tokens that it gives, or returns the text's first fault, with its line.
+//!
+//! Before that, `scan::line_ends` counts the line ends of the whole text, for the line of its end. `scan::scan` makes a
+//! row of all pieces, for a caller that tells a person about a mistake; `lex` does not use it.
 //!
 //! Begin at `lex`, below. The types are in `token`:
 //!
@@ -38,6 +42,5 @@ pub fn lex(alloc: Global, text: &str) -> Result<Vec<Token>, SyntaxFault>
     ensures order { IfOk result (λ tokens. InOrder 0 tokens.items (length text.now)) }
 {
     let bytes = text.as_bytes();
-    let pieces = scan::scan(alloc, bytes)?;
-    lay::lay(alloc, &pieces, 1 + scan::line_ends(bytes), bytes.len())
+    lay::lay(alloc, bytes, 1 + scan::line_ends(bytes))
 }

@@ -1,9 +1,10 @@
-//! The first pass of the lexer: cuts a text into pieces. `first` chooses by the first byte, `scan` has the loop.
+//! The pieces of a text: `piece_at` cuts one, and its kind and size come from `first`, which chooses by the first byte.
+//! `scan` makes a row of all the pieces.
 //!
 //! Signs are found by their first byte (`specs/Signs`), by the whole table in the definition; `proofs/Signs` proves
 //! that they agree.
 
-ghost use Rattle.std.specs.Prelude.{◌≡◌, ◌+◌, ◌≤◌, ◌∷◌, length, map, IfSome, IfOk};
+ghost use Rattle.std.specs.Prelude.{◌≡◌, ◌+◌, ◌<◌, ◌≤◌, ◌∷◌, drop, length, map, IfSome, IfOk};
 ghost use Rattle.star_lex.specs.Tokens as spec;
 ghost use Rattle.star_lex.specs.Pieces as pieces;
 ghost use Rattle.star_lex.specs.Signs as signs;
@@ -317,35 +318,48 @@ pub fn line_ends(text: &[u8]) -> usize
     count
 }
 
-/// The most pieces for which room is made beforehand. Most texts have at most one piece for each three bytes, so their
-/// row never grows: a row that grows is moved, and leaves holes in the memory of a process that stays.
-const MOST_ROOM: usize = 1 << 20;
+/// The piece at the byte `at` of a text, on the line `line`. The pieces from there on are this one, and those from its
+/// end on.
+pub(crate) fn piece_at(text: &[u8], line: usize, at: usize) -> Piece
+    requires inside { at < length text.now }
+    requires line { line ≤ at + 1 }
+    ensures next { pieces.pieces_from 0 line at (drop at text.now)
+        ≡ result ∷ pieces.pieces_from 0 result.last result.span.end (drop result.span.end text.now) }
+    ensures start { result.span.start ≡ at }
+    ensures moves { at < result.span.end }
+    ensures within { result.span.end ≤ length text.now }
+    ensures last { result.last ≤ result.span.end + 1 }
+{
+    let rest = &text[at..];
+    let (kind, size) = first(rest);
+    let last = line + line_ends(&rest[..size]);
+    let span = Span {
+        start: at,
+        end: at + size,
+    };
+    Piece {
+        kind,
+        line,
+        last,
+        span,
+    }
+}
 
-/// The pieces of a text, whose texts, joined, are the text.
+/// The pieces of a text, whose texts, joined, are the text. The row takes more memory than the tokens, and is only for
+/// telling a person about a mistake.
 pub fn scan(alloc: Global, text: &[u8]) -> Result<Vec<Piece>, AllocError>
     ensures value { IfOk result (λ found. found.items ≡ pieces.pieces text.now) }
     ensures joined { IfOk result (λ found. pieces.joined text.now found.items ≡ text.now) }
     ensures tiles { IfOk result (λ found. pieces.Tiles 0 found.items (length text.now)) }
 {
-    let mut found = Vec::with_capacity(alloc, (text.len() / 2).min(MOST_ROOM))?;
-    let mut rest = text;
+    let mut found = Vec::new(alloc);
     let mut line = 1;
-    while !rest.is_empty() {
-        let (kind, size) = first(rest);
-        let start = text.len() - rest.len();
-        let last = line + line_ends(&rest[..size]);
-        let span = Span {
-            start,
-            end: start + size,
-        };
-        found.push(Piece {
-            kind,
-            line,
-            last,
-            span,
-        })?;
-        line = last;
-        rest = &rest[size..];
+    let mut at = 0;
+    while at < text.len() {
+        let piece = piece_at(text, line, at);
+        found.push(piece)?;
+        line = piece.last;
+        at = piece.span.end;
     }
     Ok(found)
 }

@@ -19,13 +19,36 @@ use Rattle.star_lex.proofs.token.SyntaxFault.TheSendSync as of_syntax
 use Rattle.star_reading.proofs.Closures.{captured, closure_sync}
 use Rattle.star_reading.specs.contracts.reading.Read as read
 use Rattle.star_reading.proofs.Crossing.{program_sync}
-use Rattle.star_reading.proofs.Moving.{tree_send, tree_sync}
+use Rattle.star_reading.proofs.Moving.{read_send, tree_send, tree_sync}
 use Rattle.star_reading.proofs.code.StaticFault.TheSendSync as of_fault
 use Rattle.star_memo.specs.contracts.parses.Parse as parse
 use Rattle.star_memo.specs.contracts.ahead.Parser as parser
+use Rattle.star_memo.specs.contracts.readings.Arena as arena
+use Rattle.star_memo.specs.contracts.readings.Readings as readings
+use Rattle.boxcar.proofs.vec.Vec.TheSendSync as of_row
 
 parse_send : IsSend parse.the_row
 parse_send = variants_send parse.enum ((tree_send, tt), ((of_syntax.the_send, tt), tt))
+
+parse_sync : IsSync parse.the_row
+parse_sync = variants_sync parse.enum ((tree_sync, tt), ((of_syntax.the_sync, tt), tt))
+
+-- an arena may be freed by another thread
+pub arena_send : IsSend arena.the_row
+arena_send =
+    let t = tree_send in
+    let y = tree_sync in
+    let p = parse_send in
+    let q = parse_sync in
+    search (of_row.the_send, sendable, crosses) depth 40
+
+-- .. and so may readings
+pub readings_send : (κ : NamedLft) → IsSend (readings.the_row κ)
+readings_send κ =
+    let r = read_send κ in
+    let y = tree_sync in
+    let f = of_syntax.the_send in
+    search (sendable, crosses) depth 40
 
 abbrev numbered : RattleType
 numbered = Tuple (usize ∷ parse.the_row ∷ [])

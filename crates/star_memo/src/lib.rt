@@ -10,7 +10,7 @@
 //! - `lasting` finds, among these others, the ends that stay though files that they need have changed: all that they
 //!   load of these is the same data as before, which `same` sees in the stores. Begin at `Change::lasting`.
 //! - `compared` has the files before and after a change, whose texts are compared once for all of these.
-//! - `release` frees many values by several threads.
+//! - `release` frees values by threads of their own.
 //!
 //! The promise is the contract of each function: each value that is kept for a file is the result of parsing its text,
 //! or its end in every run of the files as they are (`specs`). That an end stays is a law of `star_needs`, and so is

@@ -12,7 +12,7 @@ ghost use Rattle.star_outcome.specs.declared.good_end.GoodEnd.{GoodEnd as EndVie
 ghost use Rattle.star_memo.specs.Readings.{HasPrelude};
 
 use crate::compared::Compared;
-use crate::release::{VALUES_FOR_THREADS, free};
+use crate::release::{VALUES_FOR_THREADS, free, free_apart};
 use star_flow::{Flow, Graph};
 use star_outcome::good_end::GoodEnd;
 use std::alloc::{AllocError, Global};
@@ -219,6 +219,11 @@ impl Outcomes {
             return false;
         }
         has_prelude(compared, terms.prelude)
+    }
+
+    /// Frees the outcomes, in a thread of its own.
+    pub fn free_apart<R: Threads>(self, rt: &R) {
+        free_apart(rt, self);
     }
 
     /// The outcomes that stay if files take the place of those before, under these terms: all, if these are the same

@@ -14,11 +14,13 @@ ghost use Rattle.star_reading.specs.Parsed.{AreParsesOf, IsParsed};
 use crate::compared::Compared;
 use crate::outcomes::has_prelude;
 use crate::parses::{Kept, Parse, Parses};
+use crate::release::free_apart;
 use star_label::files::Files;
 use star_reading::parses::Parsed;
 use star_reading::reading::{Reads, Trees};
 use std::alloc::{AllocError, Global};
 use std::sync::{Arc, Wait};
+use std::thread::Threads;
 
 /// An arena may have the results of this many texts more than twice the files.
 const SPARE_TEXTS: usize = 64;
@@ -48,6 +50,11 @@ impl Arena {
             trees: Trees::new(alloc)?,
             parses: boxcar::Vec::new(alloc)?,
         })
+    }
+
+    /// Frees the trees, in a thread of its own.
+    pub fn free_apart<R: Threads>(self, rt: &R) {
+        free_apart(rt, self);
     }
 
     /// How many bytes the texts have whose results are in the arena.
@@ -165,6 +172,11 @@ impl<'t> Readings<'t> {
             parses: Vec::new(alloc),
             prelude,
         }
+    }
+
+    /// Frees the readings, in a thread of its own.
+    pub fn free_apart<R: Threads>(self, rt: &R) {
+        free_apart(rt, self);
     }
 
     /// The readings that stay if files take the place of those before, and see this prelude: those of the files whose

@@ -1,4 +1,8 @@
-//! Freeing many values by several threads.
+//! Freeing values by threads of their own.
+//!
+//! The C library keeps a part of the memory for each thread, and a thread that frees a block keeps it for itself as long
+//! as it lives, also if it lies in the part of another one. Blocks that a thread which stays has kept so would cut the
+//! other parts to pieces. So what many threads have made is freed by threads that end.
 
 ghost use Rattle.std.specs.Prelude.{◌≡◌, ◌≤◌, IfOk, vec_len};
 
@@ -32,6 +36,11 @@ fn dealt<T: Drop>(alloc: Global, values: Vec<T>, rows: usize) -> Result<Vec<Vec<
         next = if next + 1 < dealt.len() { next + 1 } else { 0 };
     }
     Ok(dealt)
+}
+
+/// Frees a value that several threads have made, by a thread of its own.
+pub(crate) fn free_apart<T: Drop + Send, R: Threads>(rt: &R, value: T) {
+    thread::join(rt, move || drop(value), || ());
 }
 
 /// Frees values, by up to `threads` threads if there are many: a run of thousands of files is freed in a quarter of the

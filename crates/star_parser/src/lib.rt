@@ -42,6 +42,7 @@ pub fn parse(alloc: Global, text: &str) -> Result<Tree, SyntaxFault>
         return Err(SyntaxFault::TooNested { line });
     }
     let leaves = leaves(alloc, text, &tokens)?;
+    drop(tokens);
     match file_of(alloc, leaves.as_slice())? {
         Some(statements) => Ok(Tree { statements }),
         None => Err(SyntaxFault::BadSyntax),

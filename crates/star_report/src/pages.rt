@@ -186,12 +186,14 @@ fn push_page(all: &mut Vec<u8>, later: bool, page: &Page) -> Result<bool, AllocE
     Ok(true)
 }
 
-/// The number of bytes of all texts, with a comma for each, and of the end of the report.
+/// The number of bytes of all texts that are shown, with a comma for each, and of the end of the report.
 fn room_of(pages: &[Page]) -> usize {
     let mut room: usize = END_BYTES;
     for page in pages {
         if let Some(text) = &page.text {
-            room = room.saturating_add(text.len()).saturating_add(1);
+            if page.shown {
+                room = room.saturating_add(text.len()).saturating_add(1);
+            }
         }
     }
     room

@@ -31,9 +31,9 @@ use star_host::{
 };
 pub use star_report::wanted::{Output, Wanted};
 use std::alloc::{AllocError, Global};
-use std::mem;
 use std::sync::{Arc, Wait};
 use std::thread::Threads;
+use std::{mem, thread};
 
 /// The request to the program, as its command line gives it.
 #[derive(Debug, Drop)]
@@ -72,6 +72,8 @@ pub struct Job<'a, 't> {
     pub trees: &'t Trees,
     /// The results of parsing the texts that were parsed before, by the numbers of their files.
     pub parses: &'a [Option<Parsed<'t>>],
+    /// How many threads may read files.
+    pub readers: usize,
 }
 
 /// A run, and its output.
@@ -89,7 +91,6 @@ fn checked<'t, H: Threads + Wait + Sync>(
     job: &Job<'_, 't>,
     reads: &mut Reads<'t>,
     only_roots: bool,
-    threads: usize,
 ) -> Result<Checked, AllocError>
     requires parses { AreParsesOf job.now.asked.now.files job.now.parses.now }
     requires reads { AreKnown job.now.asked.now.files job.now.asked.now.prelude reads.old.all.items }
@@ -109,7 +110,15 @@ fn checked<'t, H: Threads + Wait + Sync>(
         parses: job.parses,
     };
     let before = mem::replace(reads, Reads::new(alloc));
-    let read = read_parsed(rt, alloc, texts, before, roots, job.asked.prelude, threads)?;
+    let read = read_parsed(
+        rt,
+        alloc,
+        texts,
+        before,
+        roots,
+        job.asked.prelude,
+        job.readers,
+    )?;
     let it = check(alloc, files, &read, roots, only_roots)?;
     *reads = read;
     Ok(it)
@@ -161,6 +170,7 @@ fn answered<'t, H: Threads + Wait + Sync>(
         trees: job.trees,
         parses: job.parses,
         ends,
+        readers: job.readers,
     };
     let run_options = RunOptions {
         roots,
@@ -201,7 +211,7 @@ fn check_over<'t, H: Threads + Wait + Sync>(
         IsReadOf a.files a.roots.items a.prelude reads.new.all.items) }
     ensures others { let a = job.now.asked.now in IfOk result (λ _. AreKnown a.files a.prelude reads.new.others.items) }
 {
-    match checked(rt, alloc, job, reads, only_roots, options.loaders) {
+    match checked(rt, alloc, job, reads, only_roots) {
         Ok(it) => {
             let Checked { text, all_ok, .. } = it;
             let said = String::new(alloc);
@@ -229,6 +239,19 @@ fn read_numbers(alloc: Global, reads: &Reads) -> Result<Vec<usize>, AllocError> 
         }
     }
     Ok(numbers)
+}
+
+/// From this many files on, a run is freed in a thread of its own.
+const FILES_FOR_THREADS: usize = 16;
+
+/// Frees a run, in a thread of its own if it has many files. The C library keeps some of the blocks that a thread frees
+/// for that thread, as long as it lives: a thread that stays would keep blocks between those of other loaders.
+fn free_run<H: Threads>(rt: &H, run: Run) {
+    if run.len() < FILES_FOR_THREADS {
+        drop(run);
+    } else {
+        thread::join(rt, move || drop(run), || ());
+    }
 }
 
 /// Runs the roots that are asked for, frees the run, and returns its output, with its good ends. For a check nothing is
@@ -275,6 +298,7 @@ pub fn written_over<'t, H: Threads + Wait + Sync>(
     let mut run = run;
     let ends = run.good_ends(alloc, job.asked.files.len())?;
     let reached = read_numbers(alloc, reads)?;
+    free_run(rt, run);
     Ok(Finished {
         written,
         ends,
@@ -349,7 +373,7 @@ fn checked_over<'t, H: Threads + Wait + Sync, W: Sink, E: Sink>(
         judged,
         text,
         all_ok,
-    } = match checked(rt, alloc, job, &mut reads, only_roots, options.loaders) {
+    } = match checked(rt, alloc, job, &mut reads, only_roots) {
         Ok(it) => it,
         Err(_) => return Err(ServeError::Memory),
     };
@@ -447,6 +471,7 @@ pub(crate) fn reported<H: Threads + Wait + Sync, W: Sink, E: Sink>(
         asked,
         trees: &trees,
         parses: parses.as_slice(),
+        readers: options.loaders,
     };
     let outcome = reported_over(rt, alloc, &job, writer, errors, options);
     // The process ends next, and the system takes back all of its memory at once.

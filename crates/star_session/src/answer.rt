@@ -43,7 +43,7 @@ struct Reported {
     reached: Vec<usize>,
 }
 
-/// Runs the roots that are asked for, with trees that lie in an arena. A file whose reading is there is not read again;
+/// Runs the roots that are asked for, with trees that lie in an arena. Up to `readers` threads read files. A file whose reading is there is not read again;
 /// after it the readings of the run are there too.
 fn run_over<'t, H: Threads + Wait + Sync>(
     rt: &H,
@@ -53,6 +53,7 @@ fn run_over<'t, H: Threads + Wait + Sync>(
     ends: &[Option<GoodEnd>],
     readings: &mut Readings<'t>,
     options: &Options,
+    readers: usize,
 ) -> Result<Finished, ServeError>
     requires ends { AreEndsNow asked.now.files asked.now.prelude options.now.steps ends.now }
     requires readings { AreReadings asked.now.files readings.old }
@@ -75,6 +76,7 @@ fn run_over<'t, H: Threads + Wait + Sync>(
         asked,
         trees: &arena.trees,
         parses: readings.parses.as_slice(),
+        readers,
     };
     let finished = written_over(rt, alloc, &job, ends, &mut readings.reads, options)?;
     readings.reads.take_others();
@@ -132,10 +134,11 @@ fn report_of<H: Threads + Wait + Sync>(
         seed: staying.seed,
     };
     let first = first_files(alloc, asked)?;
+    let readers = staying.readers;
     let reads = staying.readings.reads.all.as_slice();
     staying
         .parses
-        .parse_reached(rt, alloc, &asked.files, reads, first, loaders)?;
+        .parse_reached(rt, alloc, &asked.files, reads, first, readers)?;
     let arena = staying.arena;
     staying
         .readings
@@ -146,7 +149,7 @@ fn report_of<H: Threads + Wait + Sync>(
         written,
         ends,
         reached,
-    } = run_over(rt, alloc, asked, arena, ends, readings, &options)?;
+    } = run_over(rt, alloc, asked, arena, ends, readings, &options, readers)?;
     let mut text = written.text;
     text.pop();
     Ok(Reported {
@@ -248,16 +251,80 @@ struct After<'t> {
     reached: Vec<usize>,
 }
 
+/// The limits of a request.
+#[derive(Clone, Copy)]
+pub(crate) struct Limits {
+    /// How many loaders run, from 1 to 64.
+    pub loaders: usize,
+    /// The most bytes that the texts with kept values may have after a request.
+    pub keep: usize,
+}
+
+/// How many threads are at work on a request.
+#[derive(Clone, Copy)]
+struct Crew {
+    /// How many parse and read files.
+    readers: usize,
+    /// How many run files, from 1 to 64.
+    loaders: usize,
+}
+
+/// If the runs of all files took fewer steps than this in the last request, one loader runs them.
+const FEW_STEPS: u64 = 1_000_000;
+
+/// How many threads are at work on a request with these files. If the texts have far more bytes than may be kept, all are
+/// parsed again for each request, and memory counts more than time: then one thread parses and reads, and it also runs
+/// the files if they took few steps in the last request. The C library keeps a part of the memory for each thread, as large
+/// as the thread ever needed, and several threads share work in another way in each request.
+fn crew_for(files: &Files, limits: Limits, paid: Option<u64>) -> Crew
+    requires { (1 ≤ limits.loaders) × (limits.loaders ≤ 64) }
+    ensures { (1 ≤ result.loaders) × (result.loaders ≤ 64) }
+{
+    let loaders = limits.loaders;
+    let mut bytes: usize = 0;
+    for n in 0..files.len() {
+        bytes = bytes.saturating_add(files.text(n).len());
+    }
+    if bytes / 16 <= limits.keep {
+        return Crew {
+            readers: loaders,
+            loaders,
+        };
+    }
+    match paid {
+        Some(steps) if steps < FEW_STEPS => Crew {
+            readers: 1,
+            loaders: 1,
+        },
+        _ => Crew {
+            readers: 1,
+            loaders,
+        },
+    }
+}
+
+/// The steps that the runs of files took with these ends. None if some of the reached files did not end well.
+fn paid_by(ends: &[Option<GoodEnd>], reached: &[usize]) -> Option<u64> {
+    let mut paid: u64 = 0;
+    for n in reached {
+        let Some(Some(end)) = ends.get(*n) else {
+            return None;
+        };
+        paid = paid.saturating_add(u64::from(end.body.paid));
+    }
+    Some(paid)
+}
+
 /// Makes the changes of a request, and the report of the files after them.
 fn report_after<'t, H: Threads + Wait + Sync>(
     rt: &H,
     alloc: Global,
     standing: &mut Standing<'t>,
     request: Request,
-    loaders: usize,
+    limits: Limits,
 ) -> Result<After<'t>, ServeError>
     requires standing { IsStanding standing.old }
-    requires loaders { (1 ≤ loaders) × (loaders ≤ 64) }
+    requires loaders { (1 ≤ limits.loaders) × (limits.loaders ≤ 64) }
     requires steps { (1 ≤ request.question.steps) × (request.question.steps ≤ 100000000) }
     ensures files { standing.new.files ≡ standing.old.files }
     ensures standing { IsStanding standing.new }
@@ -282,11 +349,12 @@ fn report_after<'t, H: Threads + Wait + Sync>(
         Err(error) => return Err(error),
     };
     let (steps, wanted) = (question.steps, question.wanted);
+    let Crew { readers, loaders } = crew_for(&asked.files, limits, standing.kept.paid);
     let terms = Terms {
         prelude: asked.prelude,
         steps,
     };
-    let mut staying = standing.staying(rt, alloc, &asked.files, terms, loaders)?;
+    let mut staying = standing.staying(rt, alloc, &asked.files, terms, loaders, readers)?;
     let before = &standing.files;
     keep_lasting(rt, alloc, before, &mut asked, &mut staying, loaders, steps)?;
     let reported = report_of(rt, alloc, &asked, &mut staying, wanted, loaders, steps)?;
@@ -305,15 +373,6 @@ fn report_after<'t, H: Threads + Wait + Sync>(
         last: Last { question, report },
         reached,
     })
-}
-
-/// The limits of a request.
-#[derive(Clone, Copy)]
-pub(crate) struct Limits {
-    /// How many loaders run, from 1 to 64.
-    pub loaders: usize,
-    /// The most bytes that the texts with kept values may have after a request.
-    pub keep: usize,
 }
 
 /// The answer to a request, whose id is this JSON, and the files after it. If it is refused, the files stay as they
@@ -339,7 +398,7 @@ pub(crate) fn answered<H: Threads + Wait + Sync>(
         let known = line_of(alloc, id, "report", report)?;
         return Ok(known);
     }
-    let after = match report_after(rt, alloc, standing, request, limits.loaders) {
+    let after = match report_after(rt, alloc, standing, request, limits) {
         Ok(after) => after,
         Err(error) => return Err(error),
     };
@@ -353,10 +412,11 @@ pub(crate) fn answered<H: Threads + Wait + Sync>(
         reached,
     } = after;
     standing.files = files;
+    standing.kept.paid = paid_by(&outcomes.all, &reached);
     standing.kept.parses = parses;
     standing.kept.outcomes = outcomes;
     standing.kept.last = Some(last);
     standing.readings = readings;
-    standing.trim(alloc, &reached, limits.keep);
+    standing.trim(rt, alloc, &reached, limits.keep);
     Ok(line)
 }

@@ -222,15 +222,15 @@ struct Begin {
 }
 
 impl Session<'_> {
-    /// The state as the next generation begins, over this arena.
-    fn begin(self, arena: Arena) -> Begin
+    /// The state as the next generation begins, over this arena. The readings of this generation are freed.
+    fn begin<H: Threads>(self, rt: &H, arena: Arena) -> Begin
         requires { IsStanding self.standing }
         ensures files { result.files ≡ self.entry.standing.files }
         ensures kept { AreKeptFor result.files result.kept }
         ensures lines { result.lines ≡ self.entry.lines }
     {
         let Session { standing, lines } = self;
-        let (files, kept) = standing.lasting();
+        let (files, kept) = standing.lasting(rt);
         Begin {
             files,
             kept,
@@ -346,7 +346,11 @@ fn answer_generation<H: Threads + Wait + Sync, F: Repo + Copy, R: Source, W: Sin
     let standing = Standing::new(alloc, files, kept, &arena);
     let mut session = Session { standing, lines };
     match answer_lines(rt, alloc, folder, &mut session, settings, reader, writer)? {
-        Some(next) => Ok(Some(session.begin(next))),
+        Some(next) => {
+            let next = session.begin(rt, next);
+            arena.free_apart(rt);
+            Ok(Some(next))
+        }
         None => Ok(None),
     }
 }

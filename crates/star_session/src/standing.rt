@@ -43,6 +43,8 @@ pub(crate) struct KeptValues {
     pub outcomes: Outcomes,
     /// The last report that was made of these files.
     pub last: Option<Last>,
+    /// The steps that the runs of the files took that the last report is of, if all ended well.
+    pub paid: Option<u64>,
     /// The number of requests that were run.
     pub requests: u64,
     /// The seed for the hashes of keys in each run.
@@ -55,6 +57,7 @@ impl Drop for KeptValues {
             parses: _,
             outcomes: _,
             last: _,
+            paid: _,
             requests: _,
             seed: _,
         } = self;
@@ -84,6 +87,8 @@ pub(crate) struct Staying<'t> {
     pub arena: &'t Arena,
     /// The seed for the hashes of keys in each run.
     pub seed: u64,
+    /// How many threads may parse and read.
+    pub readers: usize,
 }
 
 impl KeptValues {
@@ -99,6 +104,7 @@ impl KeptValues {
             parses: Parses::new(alloc),
             outcomes: Outcomes::new(alloc, terms),
             last: None,
+            paid: None,
             requests: 0,
             seed,
         }
@@ -172,13 +178,19 @@ impl<'t> Standing<'t> {
         Arena::new(alloc).ok()
     }
 
-    /// The files and the values that are kept for them, without the readings.
-    pub(crate) fn lasting(self) -> (Files, KeptValues)
+    /// The files and the values that are kept for them. The readings are freed.
+    pub(crate) fn lasting<H: Threads>(self, rt: &H) -> (Files, KeptValues)
         requires { IsStanding self }
         ensures files { result.0 ≡ self.entry.files }
         ensures kept { AreKeptFor result.0 result.1 }
     {
-        let Standing { files, kept, .. } = self;
+        let Standing {
+            files,
+            kept,
+            readings,
+            ..
+        } = self;
+        readings.free_apart(rt);
         (files, kept)
     }
 
@@ -218,6 +230,7 @@ impl<'t> Standing<'t> {
         files: &Files,
         terms: Terms,
         threads: usize,
+        readers: usize,
     ) -> Result<Staying<'t>, AllocError>
         requires standing { IsStanding self.old }
         requires threads { 1 ≤ threads }
@@ -248,6 +261,7 @@ impl<'t> Standing<'t> {
             readings,
             arena: self.arena,
             seed: self.kept.seed,
+            readers,
         })
     }
 
@@ -266,7 +280,7 @@ impl<'t> Standing<'t> {
     {
         let mut before = self;
         let terms = before.kept.outcomes.terms;
-        let staying = before.staying(rt, alloc, &files, terms, threads)?;
+        let staying = before.staying(rt, alloc, &files, terms, threads, threads)?;
         free_ends(rt, alloc, staying.former, threads);
         Ok(Standing {
             files,
@@ -274,6 +288,7 @@ impl<'t> Standing<'t> {
                 parses: staying.parses,
                 outcomes: staying.outcomes,
                 last: None,
+                paid: before.kept.paid,
                 requests: before.kept.requests,
                 seed: before.kept.seed,
             },
@@ -284,7 +299,7 @@ impl<'t> Standing<'t> {
 
     /// Records which files a request reached. If the texts have more than `keep` bytes, the trees that no request has
     /// reached for the longest time go, and all outcomes.
-    pub(crate) fn trim(&mut self, alloc: Global, reached: &[usize], keep: usize)
+    pub(crate) fn trim<H: Threads>(&mut self, rt: &H, alloc: Global, reached: &[usize], keep: usize)
         requires { IsStanding self.old }
         ensures files { self.new.files ≡ self.old.files }
         ensures standing { IsStanding self.new }
@@ -292,7 +307,8 @@ impl<'t> Standing<'t> {
         self.kept.requests = self.kept.requests.saturating_add(1);
         self.kept.parses.touch_each(reached, self.kept.requests);
         if self.kept.parses.trim(alloc, &self.files, keep) {
-            self.kept.outcomes = Outcomes::new(alloc, self.kept.outcomes.terms);
+            let none = Outcomes::new(alloc, self.kept.outcomes.terms);
+            mem::replace(&mut self.kept.outcomes, none).free_apart(rt);
         }
     }
 }

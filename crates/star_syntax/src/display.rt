@@ -7,7 +7,7 @@ ghost use Rattle.star_syntax.specs.Language.{Gives, Nests, reads};
 use crate::leaf::ValuedToken;
 use crate::level::Level;
 use crate::make::target_of;
-use crate::reader::{Grammar, Read, exact, keyword, onto, sign, sign_at, tuple_unless_one};
+use crate::reader::{Grammar, Read, exact, keyword, onto, room, sign, sign_at, tuple_unless_one};
 use sqlite_items::{Boxed, Items};
 use star_lex::token::{Keyword, Punctuator};
 use star_tree::tree::{Clause, Clauses, Entry, Expression, Position, Target};
@@ -384,7 +384,7 @@ impl<F: Fn(Global, u128, Level, &[ValuedToken]) -> Read<'_, Boxed<Expression>>> 
         requires { Nests self.now.depth (F.pre self.now.expression) (F.post self.now.expression) }
         ensures { Gives (reads self.now.depth spec.further_entries leaves.now) result }
     {
-        let mut found = Items::new(self.alloc);
+        let mut found = room(self.alloc, leaves)?;
         let mut rest = leaves;
         for _turn in 0..leaves.len() {
             let Some((next, after)) = self.next_entry(rest)? else {

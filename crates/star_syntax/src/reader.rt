@@ -8,7 +8,7 @@
 //! A name, an int or a string before a word that ends an expression is read at once (`alone`); each level of the
 //! grammar would read the same (`specs/Alone`).
 
-ghost use Rattle.std.specs.Prelude.{◌≡◌, ◌∷◌, length, true, IfOk};
+ghost use Rattle.std.specs.Prelude.{◌≡◌, ◌∷◌, [], length, true, IfOk};
 ghost use Rattle.star_syntax.specs.Alone.{ReadAlone};
 ghost use Rattle.star_syntax.specs.Grammar.{first, level as at_level, rounds, run};
 ghost use Rattle.star_syntax.specs.Expressions as spec;
@@ -190,6 +190,40 @@ fn alone(alloc: Global, leaves: &[ValuedToken]) -> Read<'_, Boxed<Expression>>
     }
 }
 
+/// How many further elements commas promise before the closing bracket, if the leaves begin with a comma.
+fn promised(leaves: &[ValuedToken]) -> usize {
+    let mut depth: usize = 0;
+    let mut count: usize = 0;
+    for leaf in leaves {
+        match &leaf.word {
+            TokenValue::Punctuator(Punctuator::Comma) if depth == 0 => {
+                count = count.saturating_add(1);
+            }
+            _ if count == 0 => return 0,
+            TokenValue::Punctuator(
+                Punctuator::LeftParen | Punctuator::LeftBracket | Punctuator::LeftBrace,
+            ) => depth = depth.saturating_add(1),
+            TokenValue::Punctuator(
+                Punctuator::RightParen | Punctuator::RightBracket | Punctuator::RightBrace,
+            ) => {
+                if depth == 0 {
+                    return count;
+                }
+                depth -= 1;
+            }
+            _ => {}
+        }
+    }
+    count
+}
+
+/// An empty row with room for the further elements that commas promise: it does not grow, and so is not moved.
+pub fn room<T: Drop>(alloc: Global, leaves: &[ValuedToken]) -> Result<Items<T>, AllocError>
+    ensures { IfOk result (λ all. all ≡ []) }
+{
+    Ok(Items::from_vec(Vec::with_capacity(alloc, promised(leaves))?))
+}
+
 /// The first, and after it the others.
 pub fn onto<T: Drop>(alloc: Global, first: T, more: Items<T>) -> Result<Items<T>, AllocError>
     ensures { IfOk result (λ all. all ≡ first ∷ more) }
@@ -288,7 +322,7 @@ impl<F: Fn(Global, u128, Level, &[ValuedToken]) -> Read<'_, Boxed<Expression>>> 
         requires { Nests self.now.depth (F.pre self.now.expression) (F.post self.now.expression) }
         ensures { Gives (reads self.now.depth spec.further_tests leaves.now) result }
     {
-        self.tests_after(Items::new(self.alloc), leaves)
+        self.tests_after(room(self.alloc, leaves)?, leaves)
     }
 
     /// `Tests = Test {',' Test}`; several are a tuple.

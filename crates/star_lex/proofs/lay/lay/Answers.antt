@@ -1,34 +1,35 @@
-use Rattle.std.proofs.Common.{◌∷◌, [], ◌∙◌, ap, arith}
-use Rattle.std.proofs.lemmas.List.{take_rest}
+use Rattle.std.proofs.Common.{◌∷◌, ◌++◌, [], ◌∙◌, ap, sym, arith, length, drop}
 use Rattle.star_lex.specs.Lines.{onto, lay, lines}
-use Rattle.star_lex.proofs.Layouts.{line_refused, line_read, at_end, at_next, err_of}
+use Rattle.star_lex.specs.Pieces.{pieces, pieces_from}
+use Rattle.star_lex.specs.Places.{rest_of}
+use Rattle.star_lex.proofs.Places.{from_front, onto_none, answers_fault, err_of}
 use Rattle.star_lex.proofs.lay.lay.Goals as goal
 
-pub returns-in_err-push_line : goal.returns-in_err-push_line
-returns-in_err-push_line c =
-    let fault = c.in_err-push_line.field-0.0 in
-    let whole = lay c.args.line c.args.at (0 ∷ []) 0 (lines 0 c.args.pieces.now) in
-    let a = line_refused whole c.args.line c.args.at c.lines.opened.items c.lines.out.items c.push_line.new.out.items c.lines.rest.now c.split_at.result.0.now c.line_size-size.result fault
-    c.lines.invariant c.line_size-size.ensures.value c.split_at.ensures.front c.in_err-push_line.ensures.tokens in
-    rw (err_of c.from_residual-in_err-push_line.result fault c.from_residual-in_err-push_line.ensures.1) a
+pub loop-at-init : goal.loop-at-init
+unfolding pieces
+loop-at-init c =
+    let text = c.args.text.now in
+    let opened = c.in_ok-push.ensures.items ∙ ap (λ ts. ts ++ 0 ∷ []) c.new-opened.ensures.items in
+    let whole = lay c.args.last (length text) (0 ∷ []) 0 (lines 0 (pieces text)) in
+    record {
+      whole = rw (c.in_ok-out.ensures.items, opened) (sym (onto_none whole) ∙ ap (onto []) (from_front c.args.last (length text) 0 (0 ∷ []) (pieces text)));
+      tiles = λ t. t;
+      within = omega arith;
+      line = omega arith;
+      depth = omega arith;
+    }
 
-pub lines-preserved : goal.lines-preserved
-lines-preserved c =
-    let whole = lay c.args.line c.args.at (0 ∷ []) 0 (lines 0 c.args.pieces.now) in
-    let tail = c.split_at.result.1.now in
-    let opened = c.push_line.new.opened.items in
-    let r = line_read whole c.args.line c.args.at c.lines.opened.items opened c.lines.out.items c.push_line.new.out.items c.lines.rest.now c.split_at.result.0.now tail c.line_size-size.result
-    c.lines.invariant c.line_size-size.ensures.value c.split_at.ensures.front c.split_at.ensures.back c.in_ok-push_line.ensures.tokens c.in_ok-push_line.ensures.opened in
-    let h = c.in-len1-up in
-    rw (take_rest tail 1) (r ∙ ap (onto c.push_line.new.out.items) (at_next c.args.line c.args.at c.line_size-size.result.1 opened tail (omega arith)))
-
-pub returns-in-empty : goal.returns-in-empty
-returns-in-empty c =
-    let whole = lay c.args.line c.args.at (0 ∷ []) 0 (lines 0 c.args.pieces.now) in
-    let tail = c.split_at.result.1.now in
-    let opened = c.push_line.new.opened.items in
-    let d = c.line_size-size.result.1 in
-    let r = line_read whole c.args.line c.args.at c.lines.opened.items opened c.lines.out.items c.push_line.new.out.items c.lines.rest.now c.split_at.result.0.now tail c.line_size-size.result
-    c.lines.invariant c.line_size-size.ensures.value c.split_at.ensures.front c.split_at.ensures.back c.in_ok-push_line.ensures.tokens c.in_ok-push_line.ensures.opened in
-    let e = at_end c.args.line c.args.at d opened tail (omega arith) in
-    r ∙ ap (onto c.push_line.new.out.items) e ∙ rw (← c.deref.ensures.value) c.in_ok-finish-in-empty.ensures
+pub returns-in_err-place-clause-value : goal.returns-in_err-place-clause-value
+returns-in_err-place-clause-value c =
+    let text = c.args.text.now in
+    let end = length text in
+    let out = c.loop-at.out.items in
+    let opened = c.loop-at.opened.items in
+    let piece = c.piece_at-piece.result in
+    let left = pieces_from 0 piece.last piece.span.end (drop piece.span.end text) in
+    let fault = c.in_err-place.field-0.0 in
+    let whole = lay c.args.last end (0 ∷ []) 0 (lines 0 (pieces text)) in
+    let part = onto out (rest_of c.args.last end c.loop-at.place opened (piece ∷ left)) in
+    let w = c.loop-at.invariant.whole ∙ ap (λ cs. onto out (rest_of c.args.last end c.loop-at.place opened cs)) c.piece_at-piece.ensures.next in
+    rw (err_of c.from_residual-in_err-place.result fault c.from_residual-in_err-place.ensures.1)
+    (answers_fault whole part fault _ w (c.in_err-place.ensures.tokens c.args.last end left))

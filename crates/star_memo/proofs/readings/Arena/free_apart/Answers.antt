@@ -1,0 +1,7 @@
+use denote.Exit.{no}
+use denote.Param.Send.{param_send, arg_send}
+use Rattle.star_memo.proofs.Moving.{arena_send}
+use Rattle.star_memo.proofs.readings.Arena.free_apart.Goals as goal
+
+pub free_apart-requires-send-T : goal.free_apart-requires-send-T
+free_apart-requires-send-T g c κs within = param_send 0 _ (arg_send _ no _ arena_send)
