@@ -36,9 +36,12 @@ fn run_with<R: Threads + Wait + Sync>(
         trees: &trees,
         parses: parses.as_slice(),
         ends: ends.as_slice(),
-        readers: BY_TWO.loaders,
     };
-    let options = RunOptions { roots, ..BY_TWO };
+    let options = RunOptions {
+        roots,
+        frugal: true,
+        ..BY_TWO
+    };
     Ok(run_in(rt, alloc, files, known, &mut reads, options, gate)?)
 }
 
@@ -79,6 +82,7 @@ fn a_file_whose_good_end_is_known_is_not_run(rt: HostRuntime) -> Result<(), Fail
     let mut second = run_again(&rt, alloc, &files, &mut first, &roots, &again)?;
     gate.has_held(&rt, 3, 0);
     again.has_held(&rt, 1, 0);
+    holds!(&rt; first.take_ballasts(alloc).len() == BY_TWO.loaders);
     let one = report_text(&rt, alloc, &files, &mut first)?;
     let two = report_text(&rt, alloc, &files, &mut second)?;
     holds!(&rt; one.as_str() == two.as_str());

@@ -35,6 +35,7 @@ pub const BY_TWO: RunOptions<'static> = RunOptions {
     loaders: 2,
     steps: 100_000,
     seed: 1,
+    frugal: false,
 };
 
 /// The files with these labels and texts.
@@ -112,6 +113,7 @@ pub fn report_text<R: Threads + Sync>(
     let options = ReportOptions {
         wanted: Wanted::NOTHING,
         threads: 1,
+        frugal: false,
     };
     let text = report(rt, alloc, files, &reads, run, &[], options)?;
     Ok(String::from_utf8(text)?)

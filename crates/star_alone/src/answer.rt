@@ -53,6 +53,7 @@ fn answer_over<'t>(
         loaders: 1,
         steps,
         seed,
+        frugal: false,
     };
     let mut run = match run_alone(alloc, files, trees, reads, options) {
         Ok(run) => run,

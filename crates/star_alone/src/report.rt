@@ -47,5 +47,5 @@ pub(crate) fn report_alone(
     let marks = roots_marked(alloc, files.len(), roots)?;
     let mut pages = pages_of(alloc, run, reads, kept.as_mut_slice(), wanted, &marks)?;
     write_each(alloc, files, &causes, wanted, pages.as_mut_slice());
-    joined(alloc, run.begun(), pages.as_slice())
+    joined(alloc, run.begun(), pages.as_slice(), false)
 }

@@ -179,5 +179,7 @@ pub fn run_alone<'t>(
         begun,
         refused,
     } = run_over(alloc, files, reads, &modules, options)?;
-    Ok(Run::new(modules, kept, begun, counts_of_one(begun), refused))
+    let per_loader = counts_of_one(begun);
+    let ballasts = Vec::new(alloc);
+    Ok(Run::new(modules, kept, begun, per_loader, refused, ballasts))
 }

@@ -1,6 +1,6 @@
 -- Seats that came back from the loaders.
-use Rattle.std.proofs.Common.{◌≡◌, ◌<◌, ℕ, List, [], ◌∷◌, length, map, get_or, slice_index_or, ap, arith, refl, suc, sym, ◌∙◌}
-use Rattle.std.proofs.lemmas.List.{get_or_default, get_or-map, length-map}
+use Rattle.std.proofs.Common.{◌≡◌, ◌<◌, ◌++◌, ℕ, List, [], ◌∷◌, length, map, take, get_or, slice_index_or, ap, arith, refl, suc, sym, ◌∙◌}
+use Rattle.std.proofs.lemmas.List.{get_or_default, get_or-map, length-map, take-append-le, take_all}
 use Rattle.std.specs.List.{Any}
 use Rattle.star_cache.specs.Seats.{SeatState, AreAll, AreNew}
 
@@ -31,15 +31,19 @@ all_back n before ws f w row same =
     let there : i < length before = omega (arith, h, row.0) in
     sym (get_or-map (λ x. (f x).number) ws i d 0 here) ∙ ap (λ ns. get_or ns i 0) same ∙ get_or-map (λ (s : SeatState). s.number) before i e 0 there)
 
--- two rows have the same numbers if they do at each index
-pub numbers_back : {A B : Type 0} (f : A → ℕ) (h : B → ℕ) (xs : List A) (ys : List B) → length ys ≡ length xs → ((i : ℕ) (d : B) (e : A) → i < length xs → h (slice_index_or ys i d) ≡ f (slice_index_or xs i e)) → map h ys ≡ map f xs
-numbers_back f h [] [] len each = refl
-numbers_back f h [] (y ∷ ys) len each = absurd (omega arith)
-numbers_back f h (x ∷ xs) [] len each = absurd (omega arith)
-numbers_back f h (x ∷ xs) (y ∷ ys) len each =
-    let here : h y ≡ f x = each 0 y x (omega arith) in
-    let rest : map h ys ≡ map f xs = numbers_back f h xs ys (omega arith) (λ i d e k. each (suc i) d e (omega arith)) in
+-- a row has the same numbers after as before if it does at each index
+pub numbers_kept : {A : Type 0} (f : A → ℕ) (xs ys : List A) → length ys ≡ length xs → ((i : ℕ) (d : A) → i < length xs → f (slice_index_or ys i d) ≡ f (slice_index_or xs i d)) → map f ys ≡ map f xs
+numbers_kept f [] [] len each = refl
+numbers_kept f [] (y ∷ ys) len each = absurd (omega arith)
+numbers_kept f (x ∷ xs) [] len each = absurd (omega arith)
+numbers_kept f (x ∷ xs) (y ∷ ys) len each =
+    let here : f y ≡ f x = each 0 y (omega arith) in
+    let rest : map f ys ≡ map f xs = numbers_kept f xs ys (omega arith) (λ i d k. each (suc i) d (omega (arith, k))) in
     cc
+
+-- a row that was lent as a slice and came back
+pub written_back : {A : Type 0} (n : ℕ) (now rest : List A) → length now ≡ n → take n (now ++ rest) ≡ now
+written_back n now rest len = take-append-le n now rest (omega (arith, len)) ∙ take_all n now (omega (arith, len))
 
 number_there : (xs ys : List SeatState) (k : ℕ) → length ys ≡ length xs → map (λ (s : SeatState). s.number) ys ≡ map (λ (s : SeatState). s.number) xs → Any (λ (s : SeatState). s.number ≡ k) xs → Any (λ (s : SeatState). s.number ≡ k) ys
 number_there xs ys k len same (i, x, inside, there, is) =

@@ -1,5 +1,5 @@
 -- The modules of all reached files, as they are kept in order.
-use Rattle.std.proofs.Common.{◌≡◌, ◌+◌, ◌<◌, ℕ, zero, suc, List, [], ◌∷◌, ◌++◌, ◌-◌, map, length, get_or, take, Option, Some, None, Result, Ok, Err, IfOk, refl, ap, sym, ◌∙◌, subst, arith}
+use Rattle.std.proofs.Common.{◌≡◌, ◌+◌, ◌<◌, ℕ, zero, suc, List, [], ◌∷◌, ◌++◌, map, length, get_or, take, Option, Some, None, Result, Ok, Err, IfOk, refl, ap, sym, ◌∙◌, subst, arith}
 use Rattle.std.specs.Prelude.{All, Contains, IsSome, cond}
 use Rattle.std.specs.List.{count_by}
 use Rattle.std.specs.Option.{option_map}
@@ -108,7 +108,7 @@ of_reached P files plan row ns is planned there all n r = pick (there n (reached
 pub begun_more : (es : List (Entry ToldView)) (n : ℕ) (d : Entry ToldView) → n < length es → count_by is_begun (take (n + 1) es) ≡ count_by is_begun (take n es) + cond (is_begun (get_or es n d)) 1 0
 begun_more es n d h = sum_by_more (λ e. cond (is_begun e) 1 0) es n d h
 
-numbers_of : {W : Type 0} (ws : List W) (f : W → SeatState) → map (λ (s : SeatState). s.number) (map f ws) ≡ map (λ w. (f w).number) ws
+pub numbers_of : {W : Type 0} (ws : List W) (f : W → SeatState) → map (λ (s : SeatState). s.number) (map f ws) ≡ map (λ w. (f w).number) ws
 numbers_of [] f = refl
 numbers_of (w ∷ ws) f = ap (λ ns. (f w).number ∷ ns) (numbers_of ws f)
 

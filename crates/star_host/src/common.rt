@@ -34,6 +34,8 @@ pub struct LoadContext<'s, 'r, 'p, 't> {
     pub loaders: usize,
     pub steps: u32,
     pub seed: u64,
+    /// Whether memory counts more than time.
+    pub frugal: bool,
 }
 
 /// The number of a file: there are at most 10,000.
@@ -84,6 +86,7 @@ impl<'s, 'r, 'p, 't> LoadContext<'s, 'r, 'p, 't> {
             loaders: options.loaders,
             steps: options.steps,
             seed: options.seed,
+            frugal: options.frugal,
         }
     }
 

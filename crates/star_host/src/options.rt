@@ -18,6 +18,8 @@ pub struct RunOptions<'a> {
     /// The seed for the hashes of keys. No answer depends on it: if it differs from run to run, nobody who writes a
     /// file can choose keys that all collide.
     pub seed: u64,
+    /// Whether memory counts more than time. Then one thread reads files, and the loaders have ballasts.
+    pub frugal: bool,
 }
 
 /// The facts that are known of the files before a run, besides the readings of some.
@@ -29,6 +31,4 @@ pub struct Known<'k, 't> {
     pub parses: &'k [Option<Parsed<'t>>],
     /// Good ends, by the numbers of their files: these files are not run again, but loaded and published as ever.
     pub ends: &'k [Option<GoodEnd>],
-    /// How many threads may read files.
-    pub readers: usize,
 }

@@ -1,6 +1,7 @@
 //! `run`: starts a thread for each loader, and collects the modules when all have ended.
 
 ghost use Rattle.std.specs.Prelude.{◌≡◌, ◌<◌, ◌≤◌, ◌⊎◌, ℕ, All, None, Some, count_by, is_some, length, map, max, sum, vec_len, IfOk, IfSome};
+ghost use denote.Param.Send.{IsSend, IsSync};
 ghost use Rattle.star_outcome.specs.Fits.{IsAsked, IsWithin};
 ghost use Rattle.star_outcome.specs.GoodEnds.{AreGoodEndsOf};
 ghost use Rattle.star_reading.specs.Found.{AreKnown, IsReadOf, Within};
@@ -24,6 +25,7 @@ use star_cache::{Book, LoadCache, Seat};
 use star_flow::{Flow, Graph};
 use star_label::files::Files as Labels;
 use star_outcome::good_end::GoodEnd;
+use star_outcome::memory::{Ballast, threads_for};
 use star_outcome::outcome::{Kept, Run};
 use star_outcome::run_id::RunId;
 use star_outcome::shelf::Shelf;
@@ -64,11 +66,13 @@ impl From<LoadError> for RunError {
     }
 }
 
-/// The result of a loader: its seat, and the first of its errors that is a cause, if it met an error.
+/// A loader: its seat, and the first of its errors that is a cause, if it met an error. Its ballast lies in the memory of
+/// its thread, if memory counts more than time.
 #[derive(Drop)]
-pub(crate) struct LoaderResult<J: RunId> {
+pub(crate) struct Loader<J: RunId> {
     seat: Seat<Told<J>>,
     error: Option<LoadError>,
+    ballast: Option<Ballast>,
 }
 
 /// The root at an index, which may be asked for.
@@ -142,60 +146,111 @@ fn work<'s, 'r, 'p, 't, J: RunId, R: Wait, G: Gate>(
     common: &LoadContext<'s, 'r, 'p, 't>,
     gate: &G,
     cache: &LoadCache<Told<J>>,
-    seat: Seat<Told<J>>,
+    loader: &mut Loader<J>,
     trace: &Trace<J>,
     flow: &Flow,
-) -> LoaderResult<J>
+)
     requires world { IsContext J.files J.plan J.shelf common.now }
     requires within { IsWithin J.files J.plan }
     requires roots { common.now.roots.now ≡ J.plan.roots }
     requires loaders { (1 ≤ common.now.loaders) × (common.now.loaders ≤ 64) }
-    ensures { result.seat.number ≡ seat.number }
+    ensures { loader.new.seat.number ≡ loader.old.seat.number }
 {
-    let mut seat = seat;
-    let mut error = None;
     if common.loaders > 1 {
-        error = take_ready(rt, common, gate, cache, &mut seat, flow, trace);
+        if common.frugal {
+            loader.ballast = Ballast::new(common.alloc).ok();
+        }
+        loader.error = take_ready(rt, common, gate, cache, &mut loader.seat, flow, trace);
     }
     let roots = common.roots;
     let count = roots.len();
     if count == 0 {
-        return LoaderResult { seat, error };
+        return;
     }
-    let first = first_place(seat.number(), common.loaders, count);
+    let first = first_place(loader.seat.number(), common.loaders, count);
     for i in 0..count {
         let root = root_at::<J>(roots, place(first, i, count));
-        let told = load(rt, common, gate, cache, &mut seat, root, trace);
-        error = reason(error, told.err());
+        let told = load(rt, common, gate, cache, &mut loader.seat, root, trace);
+        loader.error = reason(loader.error, told.err());
     }
-    LoaderResult { seat, error }
 }
 
-/// Starts a loader in its own thread for each seat: the results of all loaders, in the order of the seats.
-#[tactic(auto, using(crate::proofs::SeatsBack::numbers_back))]
-fn spawn_loaders<'s, 'r, 'p, 't, J: RunId + Send + Sync, R: Threads + Wait + Sync, G: Gate + Sync>(
+/// A loader for each seat.
+fn loaders_of<J: RunId>(
+    alloc: Global,
+    seats: Vec<Seat<Told<J>>>,
+) -> Result<Vec<Loader<J>>, AllocError>
+    ensures { IfOk result (λ v. map (λ w. w.seat) v.items ≡ seats.items) }
+{
+    let mut loaders = Vec::with_capacity(alloc, seats.len())?;
+    for seat in seats {
+        let (error, ballast) = (None, None);
+        loaders.push(Loader {
+            seat,
+            error,
+            ballast,
+        })?;
+    }
+    Ok(loaders)
+}
+
+/// Starts each loader in its own thread.
+///
+/// The loaders lie in a row of the caller: a row that a loader makes lies in the memory that the C library keeps for
+/// its thread, and if the caller frees it, the C library keeps it for the caller, between the memory of other runs.
+#[tactic(auto, using(crate::proofs::SeatsBack::numbers_kept))]
+fn start_loaders<'s, 'r, 'p, 't, J: RunId + Send + Sync, R: Threads + Wait + Sync, G: Gate + Sync>(
     rt: &R,
     common: &LoadContext<'s, 'r, 'p, 't>,
     gate: &G,
     cache: &LoadCache<Told<J>>,
-    seats: Vec<Seat<Told<J>>>,
+    loaders: &mut [Loader<J>],
     trace: &Trace<J>,
     flow: &Flow,
-) -> Result<Vec<LoaderResult<J>>, AllocError>
+)
     requires world { IsContext J.files J.plan J.shelf common.now }
     requires within { IsWithin J.files J.plan }
     requires roots { common.now.roots.now ≡ J.plan.roots }
     requires loaders { (1 ≤ common.now.loaders) × (common.now.loaders ≤ 64) }
-    ensures { IfOk result (λ v. map (λ w. w.seat.number) v.items ≡ map (λ s. s.number) seats.items) }
+    ensures { map (λ w. w.seat.number) loaders.new ≡ map (λ w. w.seat.number) loaders.old }
 {
-    thread::map_vec(
+    thread::for_each_mut(
         rt,
-        seats,
-        &|seat: Seat<Told<J>>| -> LoaderResult<J>
+        loaders,
+        common.loaders,
+        &|_place: usize, loader: &mut Loader<J>|
             requires { MayWork J.files J.plan J.shelf common.now }
-            ensures { result.seat.number ≡ seat.number }
-        { work(rt, common, gate, cache, seat, trace, flow) },
-    )
+            ensures { loader.new.seat.number ≡ loader.old.seat.number }
+        { work(rt, common, gate, cache, loader, trace, flow) },
+    );
+}
+
+/// Starts the loaders. If memory counts more than time, a thread of its own does, so that this thread runs no files: it
+/// stays, and the C library keeps some of the blocks that it frees for it, between all that lies in its part of the memory.
+fn start_apart<'s, 'r, 'p, 't, J: RunId + Send + Sync, R: Threads + Wait + Sync, G: Gate + Sync>(
+    rt: &R,
+    common: &LoadContext<'s, 'r, 'p, 't>,
+    gate: &G,
+    cache: &LoadCache<Told<J>>,
+    loaders: &mut [Loader<J>],
+    trace: &Trace<J>,
+    flow: &Flow,
+)
+    requires world { IsContext J.files J.plan J.shelf common.now }
+    requires within { IsWithin J.files J.plan }
+    requires roots { common.now.roots.now ≡ J.plan.roots }
+    requires loaders { (1 ≤ common.now.loaders) × (common.now.loaders ≤ 64) }
+    ensures { map (λ w. w.seat.number) loaders.new ≡ map (λ w. w.seat.number) loaders.old }
+{
+    if !common.frugal {
+        start_loaders(rt, common, gate, cache, loaders, trace, flow);
+        return;
+    }
+    let mut apart = ||
+        requires { IsSync R.row × IsSync G.row × IsSend J.row × IsSync J.row × MayWork J.files J.plan J.shelf common.now }
+        ensures { map (λ w. w.seat.number) loaders.exit.now ≡ map (λ w. w.seat.number) loaders.entry.now }
+    { start_loaders(rt, common, gate, cache, loaders, trace, flow) };
+    thread::join_mut(rt, &mut apart, &mut || ());
 }
 
 /// The first error that is a cause. `Spoiled` only says that another loader gave up.
@@ -212,21 +267,28 @@ fn reason(first: Option<LoadError>, next: Option<LoadError>) -> Option<LoadError
     }
 }
 
-/// The seats of the loaders, in order, and the first of their errors that is a cause, if they met an error.
+/// The seats of the loaders, in order, the first of their errors that is a cause, if they met an error, and their
+/// ballasts.
 fn taken<J: RunId>(
     alloc: Global,
-    worked: Vec<LoaderResult<J>>,
-) -> Result<(Vec<Seat<Told<J>>>, Option<LoadError>), AllocError>
-    ensures { IfOk result (λ r. r.0.items ≡ map (λ w. w.seat) worked.items) }
+    loaders: Vec<Loader<J>>,
+) -> Result<(Vec<Seat<Told<J>>>, Option<LoadError>, Vec<Ballast>), AllocError>
+    ensures { IfOk result (λ r. r.0.items ≡ map (λ w. w.seat) loaders.items) }
 {
     let mut seats = Vec::new(alloc);
     let mut why = None;
-    for each in worked {
-        let LoaderResult { seat, error } = each;
+    let mut ballasts = Vec::new(alloc);
+    for each in loaders {
+        let Loader {
+            seat,
+            error,
+            ballast,
+        } = each;
         seats.push(seat)?;
         why = reason(why, error);
+        ballasts.extend(ballast)?;
     }
-    Ok((seats, why))
+    Ok((seats, why, ballasts))
 }
 
 /// The results in a closed cache, without the shelf.
@@ -236,6 +298,7 @@ pub(crate) struct Closed {
     begun: u32,
     per_loader: [u32; 64],
     refused: Vec<CyclicLoad>,
+    ballasts: Vec<Ballast>,
 }
 
 fn run_named<'s, 'r, 'p, 't, J: RunId + Send + Sync, R: Threads + Wait + Sync, G: Gate + Sync>(
@@ -262,13 +325,15 @@ fn run_named<'s, 'r, 'p, 't, J: RunId + Send + Sync, R: Threads + Wait + Sync, G
     let files = common.files.len();
     let (cache, seats) = LoadCache::<Told<J>>::new(alloc, blank, files, common.loaders)?;
     let flow = flow_of(common)?;
-    let worked = spawn_loaders(rt, common, gate, &cache, seats, &trace, &flow)?;
-    let (seats, error) = taken(alloc, worked)?;
+    let mut loaders = loaders_of(alloc, seats)?;
+    let each = loaders.as_mut_slice();
+    start_apart(rt, common, gate, &cache, each, &trace, &flow);
+    let (seats, error, ballasts) = taken(alloc, loaders)?;
     if let Some(error) = error {
         return Err(RunError::from(error));
     }
     let closed = closed(rt, common, gate, cache, seats, &trace)?;
-    closed_of(alloc, closed, &trace)
+    closed_of(alloc, closed, &trace, ballasts)
 }
 
 /// The results in a cache that is closed after all reached files have ended.
@@ -276,6 +341,7 @@ fn closed_of<J: RunId>(
     alloc: Global,
     closed: (Book<Told<J>>, [u32; 64]),
     trace: &Trace<J>,
+    ballasts: Vec<Ballast>,
 ) -> Result<Closed, RunError>
     requires cells { length J.shelf ≡ length J.files }
     requires within { IsWithin J.files J.plan }
@@ -298,6 +364,7 @@ fn closed_of<J: RunId>(
         begun,
         per_loader,
         refused,
+        ballasts,
     })
 }
 
@@ -350,7 +417,6 @@ pub fn run<R: Threads + Wait + Sync, G: Gate + Sync>(
         trees: &trees,
         parses: parses.as_slice(),
         ends: &[],
-        readers: options.loaders,
     };
     run_in(rt, alloc, files, known, &mut reads, options, gate)
 }
@@ -407,7 +473,7 @@ pub fn run_in<'t, R: Threads + Wait + Sync, G: Gate + Sync>(
         loaders,
         ..
     } = options;
-    let readers = known.readers;
+    let readers = threads_for(loaders, options.frugal);
     let texts = Texts {
         files,
         trees: known.trees,
@@ -429,6 +495,7 @@ pub fn run_in<'t, R: Threads + Wait + Sync, G: Gate + Sync>(
         begun,
         per_loader,
         refused,
+        ballasts,
     } = run_over(rt, &common, gate)?;
-    Ok(Run::new(modules, kept, begun, per_loader, refused))
+    Ok(Run::new(modules, kept, begun, per_loader, refused, ballasts))
 }

@@ -1,7 +1,7 @@
 //! The lexer: the tokens of a Starlark file, or its first fault (`docs/LANGUAGE.md`, "Tokens").
 //!
 //! It goes over the text piece by piece and makes the tokens as it goes, in time in proportion to the text. It does not
-//! copy the text, and the only row that it makes is that of the tokens:
+//! copy the text, and it does not keep the pieces:
 //!
 //! - `scan::piece_at` cuts the next piece: a name, a number, a string, a sign, blanks, a comment or a line end.
 //! - `lay::lay` has the loop. It keeps its place in the logical line and the open indentations. For each piece

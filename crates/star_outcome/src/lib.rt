@@ -11,7 +11,7 @@
 //! - `OpenFile` is a file whose loads are being asked for, on the stack of a loader. It is not a frame of variables.
 //!   `ReachableStores` and `StoreRow` collect the stores that its body may read.
 //! - `Trace` has the refused loads. Each is on a cycle. `Run` is the result of a run: the modules of all reached files,
-//!   by number. `GoodEnd` is the end of a file whose run went well. A caller may keep it, and give it to a later run.
+//!   by number. A `Ballast` is a block that is freed after all that a loader made. `GoodEnd` is the end of a file whose run went well. A caller may keep it, and give it to a later run.
 //!   If files that it needs have changed since, it is stale: `lasting` puts its body over the stores that they have now.
 //! - `RunId`, called `J` in signatures, is the identity of one run: its files, their plan, its shelf. Only contracts
 //!   see it. It keeps the notes of two runs apart.
@@ -23,6 +23,7 @@
 pub mod good_end;
 pub mod homes;
 mod lasting;
+pub mod memory;
 pub mod module;
 mod numbers;
 pub mod open_file;

@@ -3,12 +3,15 @@
 ghost use Rattle.std.specs.Prelude.{◌≡◌, ◌<◌, ◌==◌, length, slice_index_or, IfOk, Some};
 ghost use Rattle.star_outcome.specs.Kept.{AllKept, IsSound, KeptView};
 
+use crate::memory::Ballast;
 use crate::module::Module;
 use crate::shelf::Shelf;
 use crate::trace::CyclicLoad;
 use once_cell::race::Note;
 use std::alloc::{AllocError, Global};
 use std::marker::Model;
+use std::thread::Threads;
+use std::{mem, thread};
 
 /// A file's number, and a note of its cell.
 pub struct Kept {
@@ -78,6 +81,7 @@ pub struct Run {
     begun: u32,
     per_loader: [u32; 64],
     refused: Vec<CyclicLoad>,
+    ballasts: Vec<Ballast>,
 }
 
 impl Drop for Run {
@@ -88,6 +92,7 @@ impl Drop for Run {
             begun: _,
             per_loader: _,
             refused: _,
+            ballasts: _,
         } = self;
     }
 }
@@ -109,13 +114,14 @@ impl Model for Run {
 }
 
 impl Run {
-    /// The result with the modules of a shelf, by these notes.
+    /// The result with the modules of a shelf, by these notes, and the ballasts of the loaders, if they have any.
     pub fn new(
         shelf: Shelf<Module>,
         kept: Vec<Kept>,
         begun: u32,
         per_loader: [u32; 64],
         refused: Vec<CyclicLoad>,
+        ballasts: Vec<Ballast>,
     ) -> Run
         requires { AllKept shelf kept.items }
         ensures { result ≡ record {
@@ -132,7 +138,21 @@ impl Run {
             begun,
             per_loader,
             refused,
+            ballasts,
         }
+    }
+
+    /// The ballasts of the loaders, which stay with the caller until all that the loaders made is freed.
+    pub fn take_ballasts(&mut self, alloc: Global) -> Vec<Ballast>
+        ensures { self.new ≡ self.old }
+    {
+        mem::replace(&mut self.ballasts, Vec::new(alloc))
+    }
+
+    /// Frees the run by a thread of its own. The C library keeps some of the blocks that a thread frees for that thread,
+    /// as long as it lives: a thread that stays would keep blocks between those of other loaders.
+    pub fn free_apart<R: Threads>(self, rt: &R) {
+        thread::join(rt, move || drop(self), || ());
     }
 
     /// The number of reached files.

@@ -11,6 +11,7 @@ use crate::report::{good_text, module_value};
 use crate::wanted::Wanted;
 use star_cause::Causes;
 use star_label::files::Files as Labels;
+use star_outcome::memory::room_for;
 use star_outcome::module::{Ended, Module};
 use star_outcome::outcome::{Kept, Run};
 use star_reading::reading::Reads;
@@ -199,14 +200,20 @@ fn room_of(pages: &[Page]) -> usize {
     room
 }
 
-/// The text of a report, by the texts of the pages that are shown. The error: one was not written.
-pub fn joined(alloc: Global, begun: u32, pages: &[Page]) -> Result<Vec<u8>, AllocError>
+/// The text of a report, by the texts of the pages that are shown. `frugal` if memory counts more than time. The error: one
+/// was not written.
+pub fn joined(
+    alloc: Global,
+    begun: u32,
+    pages: &[Page],
+    frugal: bool,
+) -> Result<Vec<u8>, AllocError>
     ensures written { IfOk result (λ _. All (λ p. IsSome p.text) pages.now) }
     ensures text { IfOk result (λ s. s.items ≡ joined_text begun (shown_texts_of pages.now)) }
 {
     let mut all = format!(in alloc; "{{\"begun\":{begun},\"modules\":[")?.into_bytes();
     // All room is taken at once: a text that grows while other threads live is moved, which interrupts each processor.
-    all.reserve(room_of(pages))?;
+    all.reserve(room_for(room_of(pages), frugal))?;
     let mut later = false;
     for i in 0..pages.len() {
         later = push_page(&mut all, later, &pages[i])?;

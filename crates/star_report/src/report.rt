@@ -35,11 +35,13 @@ use std::thread::Threads;
 /// How many bytes of the text of a good module are the same in each.
 const AROUND: usize = 45;
 
-/// The options of a report: the members and modules that it shows, and how many threads at most write it.
+/// The options of a report: the members and modules that it shows, how many threads at most write it, and whether memory
+/// counts more than time.
 #[derive(Clone, Copy, Debug, PartialEq, Eq)]
 pub struct ReportOptions {
     pub wanted: Wanted,
     pub threads: usize,
+    pub frugal: bool,
 }
 
 /// Lines as strings.
@@ -248,5 +250,5 @@ pub fn report<R: Threads + Sync>(
         pages.as_mut_slice(),
         options.threads,
     );
-    joined(alloc, run.begun(), pages.as_slice())
+    joined(alloc, run.begun(), pages.as_slice(), options.frugal)
 }

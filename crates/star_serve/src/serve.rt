@@ -27,13 +27,15 @@ use star_check::verdict::Judged;
 pub use star_explain::explain::Form;
 use star_explain::explain::{explain, explain_check};
 use star_host::{
-    GoodEnd, Known, Parsed, Reads, Run, RunError, RunOptions, Texts, Trees, read_parsed, run_in,
+    Ballast, GoodEnd, Known, Parsed, Reads, Run, RunError, RunOptions, Texts, Trees, read_parsed,
+    run_in,
 };
+use star_outcome::memory::threads_for;
 pub use star_report::wanted::{Output, Wanted};
 use std::alloc::{AllocError, Global};
+use std::mem;
 use std::sync::{Arc, Wait};
 use std::thread::Threads;
-use std::{mem, thread};
 
 /// The request to the program, as its command line gives it.
 #[derive(Debug, Drop)]
@@ -72,8 +74,8 @@ pub struct Job<'a, 't> {
     pub trees: &'t Trees,
     /// The results of parsing the texts that were parsed before, by the numbers of their files.
     pub parses: &'a [Option<Parsed<'t>>],
-    /// How many threads may read files.
-    pub readers: usize,
+    /// Whether memory counts more than time.
+    pub frugal: bool,
 }
 
 /// A run, and its output.
@@ -90,6 +92,7 @@ fn checked<'t, H: Threads + Wait + Sync>(
     alloc: Global,
     job: &Job<'_, 't>,
     reads: &mut Reads<'t>,
+    loaders: usize,
     only_roots: bool,
 ) -> Result<Checked, AllocError>
     requires parses { AreParsesOf job.now.asked.now.files job.now.parses.now }
@@ -117,7 +120,7 @@ fn checked<'t, H: Threads + Wait + Sync>(
         before,
         roots,
         job.asked.prelude,
-        job.readers,
+        threads_for(loaders, job.frugal),
     )?;
     let it = check(alloc, files, &read, roots, only_roots)?;
     *reads = read;
@@ -170,7 +173,6 @@ fn answered<'t, H: Threads + Wait + Sync>(
         trees: job.trees,
         parses: job.parses,
         ends,
-        readers: job.readers,
     };
     let run_options = RunOptions {
         roots,
@@ -178,6 +180,7 @@ fn answered<'t, H: Threads + Wait + Sync>(
         loaders,
         steps: options.steps,
         seed: options.seed,
+        frugal: job.frugal,
     };
     let outcome = run_in(rt, alloc, files, known, reads, run_options, &gate);
     gate.end();
@@ -187,7 +190,9 @@ fn answered<'t, H: Threads + Wait + Sync>(
         Err(RunError::Unpublished) => return Err(ServeError::Unpublished),
     };
     let output = &options.output;
-    let written = written_of(rt, alloc, asked, reads, &mut run, output, loaders)?;
+    let frugal = job.frugal;
+    let threads = threads_for(loaders, frugal);
+    let written = written_of(rt, alloc, asked, reads, &mut run, output, threads, frugal)?;
     Ok(Answer { run, written })
 }
 
@@ -211,7 +216,7 @@ fn check_over<'t, H: Threads + Wait + Sync>(
         IsReadOf a.files a.roots.items a.prelude reads.new.all.items) }
     ensures others { let a = job.now.asked.now in IfOk result (λ _. AreKnown a.files a.prelude reads.new.others.items) }
 {
-    match checked(rt, alloc, job, reads, only_roots) {
+    match checked(rt, alloc, job, reads, options.loaders, only_roots) {
         Ok(it) => {
             let Checked { text, all_ok, .. } = it;
             let said = String::new(alloc);
@@ -228,6 +233,7 @@ pub struct Finished {
     pub written: Written,
     pub ends: Vec<Option<GoodEnd>>,
     pub reached: Vec<usize>,
+    pub ballasts: Vec<Ballast>,
 }
 
 /// The numbers of the files that were read. The error: an allocation failed.
@@ -241,16 +247,12 @@ fn read_numbers(alloc: Global, reads: &Reads) -> Result<Vec<usize>, AllocError> 
     Ok(numbers)
 }
 
-/// From this many files on, a run is freed in a thread of its own.
-const FILES_FOR_THREADS: usize = 16;
-
-/// Frees a run, in a thread of its own if it has many files. The C library keeps some of the blocks that a thread frees
-/// for that thread, as long as it lives: a thread that stays would keep blocks between those of other loaders.
-fn free_run<H: Threads>(rt: &H, run: Run) {
-    if run.len() < FILES_FOR_THREADS {
-        drop(run);
+/// Frees a run, by a thread of its own if memory counts more than time.
+fn free_run<H: Threads>(rt: &H, run: Run, frugal: bool) {
+    if frugal {
+        run.free_apart(rt);
     } else {
-        thread::join(rt, move || drop(run), || ());
+        drop(run);
     }
 }
 
@@ -289,6 +291,7 @@ pub fn written_over<'t, H: Threads + Wait + Sync>(
             written,
             ends: Vec::new(alloc),
             reached: Vec::new(alloc),
+            ballasts: Vec::new(alloc),
         });
     }
     let Answer { run, written } = match answered(rt, alloc, job, ends, reads, options) {
@@ -298,11 +301,13 @@ pub fn written_over<'t, H: Threads + Wait + Sync>(
     let mut run = run;
     let ends = run.good_ends(alloc, job.asked.files.len())?;
     let reached = read_numbers(alloc, reads)?;
-    free_run(rt, run);
+    let ballasts = run.take_ballasts(alloc);
+    free_run(rt, run, job.frugal);
     Ok(Finished {
         written,
         ends,
         reached,
+        ballasts,
     })
 }
 
@@ -373,7 +378,7 @@ fn checked_over<'t, H: Threads + Wait + Sync, W: Sink, E: Sink>(
         judged,
         text,
         all_ok,
-    } = match checked(rt, alloc, job, &mut reads, only_roots) {
+    } = match checked(rt, alloc, job, &mut reads, options.loaders, only_roots) {
         Ok(it) => it,
         Err(_) => return Err(ServeError::Memory),
     };
@@ -471,7 +476,7 @@ pub(crate) fn reported<H: Threads + Wait + Sync, W: Sink, E: Sink>(
         asked,
         trees: &trees,
         parses: parses.as_slice(),
-        readers: options.loaders,
+        frugal: false,
     };
     let outcome = reported_over(rt, alloc, &job, writer, errors, options);
     // The process ends next, and the system takes back all of its memory at once.

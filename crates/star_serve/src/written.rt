@@ -55,6 +55,7 @@ fn report_written<R: Threads + Sync>(
     run: &mut Run,
     wanted: Wanted,
     threads: usize,
+    frugal: bool,
 ) -> Result<Written, AllocError>
     requires files { length run.old.cells ≡ length asked.now.files }
     requires reads { length reads.now.all.items ≡ length asked.now.files }
@@ -67,7 +68,11 @@ fn report_written<R: Threads + Sync>(
 {
     let files = &asked.files;
     let roots = asked.roots.as_slice();
-    let options = ReportOptions { wanted, threads };
+    let options = ReportOptions {
+        wanted,
+        threads,
+        frugal,
+    };
     let text = report(rt, alloc, files, reads, run, roots, options)?;
     Ok(with_answer(alloc, run, text))
 }
@@ -164,6 +169,7 @@ pub(crate) fn written_of<R: Threads + Sync>(
     run: &mut Run,
     output: &Output,
     threads: usize,
+    frugal: bool,
 ) -> Result<Written, AllocError>
     requires files { length run.old.cells ≡ length asked.now.files }
     requires reads { length reads.now.all.items ≡ length asked.now.files }
@@ -178,7 +184,9 @@ pub(crate) fn written_of<R: Threads + Sync>(
     let files = &asked.files;
     let roots = asked.roots.as_slice();
     match output {
-        Output::Report(wanted) => report_written(rt, alloc, asked, reads, run, *wanted, threads),
+        Output::Report(wanted) => report_written(
+            rt, alloc, asked, reads, run, *wanted, threads, frugal,
+        ),
         Output::Global(name) => globals_written(alloc, files, run, roots, name),
         Output::Graph => graph_written(alloc, files, reads, run),
         Output::Check { only_roots } => check_written(alloc, files, reads, roots, *only_roots),

@@ -28,6 +28,7 @@ use star_memo::outcomes::{Outcomes, Terms, free_ends};
 use star_memo::parses::Parses;
 use star_memo::readings::{Arena, Readings};
 use star_outcome::good_end::GoodEnd;
+use star_outcome::memory::{Ballast, threads_for};
 use star_report::wanted::{Output, Wanted};
 use star_serve::serve::{Finished, Job, Options, written_over};
 use std::alloc::{AllocError, Global};
@@ -41,10 +42,11 @@ struct Reported {
     text: Vec<u8>,
     ends: Vec<Option<GoodEnd>>,
     reached: Vec<usize>,
+    ballasts: Vec<Ballast>,
 }
 
-/// Runs the roots that are asked for, with trees that lie in an arena. Up to `readers` threads read files. A file whose reading is there is not read again;
-/// after it the readings of the run are there too.
+/// Runs the roots that are asked for, with trees that lie in an arena; `frugal` if memory counts more than time. A file
+/// whose reading is there is not read again; after it the readings of the run are there too.
 fn run_over<'t, H: Threads + Wait + Sync>(
     rt: &H,
     alloc: Global,
@@ -53,7 +55,7 @@ fn run_over<'t, H: Threads + Wait + Sync>(
     ends: &[Option<GoodEnd>],
     readings: &mut Readings<'t>,
     options: &Options,
-    readers: usize,
+    frugal: bool,
 ) -> Result<Finished, ServeError>
     requires ends { AreEndsNow asked.now.files asked.now.prelude options.now.steps ends.now }
     requires readings { AreReadings asked.now.files readings.old }
@@ -76,7 +78,7 @@ fn run_over<'t, H: Threads + Wait + Sync>(
         asked,
         trees: &arena.trees,
         parses: readings.parses.as_slice(),
-        readers,
+        frugal,
     };
     let finished = written_over(rt, alloc, &job, ends, &mut readings.reads, options)?;
     readings.reads.take_others();
@@ -134,7 +136,8 @@ fn report_of<H: Threads + Wait + Sync>(
         seed: staying.seed,
     };
     let first = first_files(alloc, asked)?;
-    let readers = staying.readers;
+    let frugal = staying.frugal;
+    let readers = threads_for(loaders, frugal);
     let reads = staying.readings.reads.all.as_slice();
     staying
         .parses
@@ -149,13 +152,15 @@ fn report_of<H: Threads + Wait + Sync>(
         written,
         ends,
         reached,
-    } = run_over(rt, alloc, asked, arena, ends, readings, &options, readers)?;
+        ballasts,
+    } = run_over(rt, alloc, asked, arena, ends, readings, &options, frugal)?;
     let mut text = written.text;
     text.pop();
     Ok(Reported {
         text,
         ends,
         reached,
+        ballasts,
     })
 }
 
@@ -239,8 +244,8 @@ fn keep_lasting<H: Threads + Wait + Sync>(
     Ok(())
 }
 
-/// The files after a request, the values that are kept for them, the report that was asked for, and the files that it
-/// reached.
+/// The files after a request, the values that are kept for them, the report that was asked for, the files that it
+/// reached, and the ballasts of the loaders that ran them.
 #[derive(Drop)]
 struct After<'t> {
     files: Files,
@@ -249,6 +254,7 @@ struct After<'t> {
     readings: Readings<'t>,
     last: Last,
     reached: Vec<usize>,
+    ballasts: Vec<Ballast>,
 }
 
 /// The limits of a request.
@@ -260,13 +266,13 @@ pub(crate) struct Limits {
     pub keep: usize,
 }
 
-/// How many threads are at work on a request.
+/// The threads that are at work on a request.
 #[derive(Clone, Copy)]
 struct Crew {
-    /// How many parse and read files.
-    readers: usize,
     /// How many run files, from 1 to 64.
     loaders: usize,
+    /// Whether memory counts more than time. Then one thread parses and reads the files; else as many as run them.
+    frugal: bool,
 }
 
 /// If the runs of all files took fewer steps than this in the last request, one loader runs them.
@@ -285,21 +291,10 @@ fn crew_for(files: &Files, limits: Limits, paid: Option<u64>) -> Crew
     for n in 0..files.len() {
         bytes = bytes.saturating_add(files.text(n).len());
     }
-    if bytes / 16 <= limits.keep {
-        return Crew {
-            readers: loaders,
-            loaders,
-        };
-    }
+    let frugal = bytes / 16 > limits.keep;
     match paid {
-        Some(steps) if steps < FEW_STEPS => Crew {
-            readers: 1,
-            loaders: 1,
-        },
-        _ => Crew {
-            readers: 1,
-            loaders,
-        },
+        Some(steps) if frugal && steps < FEW_STEPS => Crew { loaders: 1, frugal },
+        _ => Crew { loaders, frugal },
     }
 }
 
@@ -349,12 +344,12 @@ fn report_after<'t, H: Threads + Wait + Sync>(
         Err(error) => return Err(error),
     };
     let (steps, wanted) = (question.steps, question.wanted);
-    let Crew { readers, loaders } = crew_for(&asked.files, limits, standing.kept.paid);
+    let Crew { loaders, frugal } = crew_for(&asked.files, limits, standing.kept.paid);
     let terms = Terms {
         prelude: asked.prelude,
         steps,
     };
-    let mut staying = standing.staying(rt, alloc, &asked.files, terms, loaders, readers)?;
+    let mut staying = standing.staying(rt, alloc, &asked.files, terms, loaders, frugal)?;
     let before = &standing.files;
     keep_lasting(rt, alloc, before, &mut asked, &mut staying, loaders, steps)?;
     let reported = report_of(rt, alloc, &asked, &mut staying, wanted, loaders, steps)?;
@@ -362,6 +357,7 @@ fn report_after<'t, H: Threads + Wait + Sync>(
         text: report,
         ends,
         reached,
+        ballasts,
     } = reported;
     free_ends(rt, alloc, staying.former, loaders);
     free_ends(rt, alloc, staying.outcomes.all, loaders);
@@ -372,6 +368,7 @@ fn report_after<'t, H: Threads + Wait + Sync>(
         readings: staying.readings,
         last: Last { question, report },
         reached,
+        ballasts,
     })
 }
 
@@ -395,14 +392,15 @@ pub(crate) fn answered<H: Threads + Wait + Sync>(
     ensures same { IfErr result (λ _. standing.new.files ≡ standing.old.files) }
 {
     if let Some(report) = standing.report_for(&request) {
-        let known = line_of(alloc, id, "report", report)?;
+        let known = line_of(alloc, id, "report", report, standing.kept.frugal)?;
         return Ok(known);
     }
     let after = match report_after(rt, alloc, standing, request, limits) {
         Ok(after) => after,
         Err(error) => return Err(error),
     };
-    let line = line_of(alloc, id, "report", after.last.report.as_slice())?;
+    let frugal = standing.kept.frugal;
+    let line = line_of(alloc, id, "report", after.last.report.as_slice(), frugal)?;
     let After {
         files,
         parses,
@@ -410,6 +408,7 @@ pub(crate) fn answered<H: Threads + Wait + Sync>(
         readings,
         last,
         reached,
+        ballasts,
     } = after;
     standing.files = files;
     standing.kept.paid = paid_by(&outcomes.all, &reached);
@@ -418,5 +417,7 @@ pub(crate) fn answered<H: Threads + Wait + Sync>(
     standing.kept.last = Some(last);
     standing.readings = readings;
     standing.trim(rt, alloc, &reached, limits.keep);
+    // They are freed last, when what the loaders have made is freed.
+    drop(ballasts);
     Ok(line)
 }

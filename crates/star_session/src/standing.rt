@@ -43,8 +43,10 @@ pub(crate) struct KeptValues {
     pub outcomes: Outcomes,
     /// The last report that was made of these files.
     pub last: Option<Last>,
-    /// The steps that the runs of the files took that the last report is of, if all ended well.
+    /// How many steps the runs for the last report took, if all files ended well.
     pub paid: Option<u64>,
+    /// Whether memory counts more than time.
+    pub frugal: bool,
     /// The number of requests that were run.
     pub requests: u64,
     /// The seed for the hashes of keys in each run.
@@ -58,6 +60,7 @@ impl Drop for KeptValues {
             outcomes: _,
             last: _,
             paid: _,
+            frugal: _,
             requests: _,
             seed: _,
         } = self;
@@ -87,8 +90,8 @@ pub(crate) struct Staying<'t> {
     pub arena: &'t Arena,
     /// The seed for the hashes of keys in each run.
     pub seed: u64,
-    /// How many threads may parse and read.
-    pub readers: usize,
+    /// Whether memory counts more than time.
+    pub frugal: bool,
 }
 
 impl KeptValues {
@@ -105,6 +108,7 @@ impl KeptValues {
             outcomes: Outcomes::new(alloc, terms),
             last: None,
             paid: None,
+            frugal: false,
             requests: 0,
             seed,
         }
@@ -221,8 +225,20 @@ impl<'t> Standing<'t> {
         Some(last.report.as_slice())
     }
 
+    /// Notes whether memory counts more than time. If it does, the last report goes.
+    fn set_frugal(&mut self, frugal: bool)
+        requires { IsStanding self.old }
+        ensures files { self.new.files ≡ self.old.files }
+        ensures standing { IsStanding self.new }
+    {
+        self.kept.frugal = frugal;
+        if frugal {
+            self.kept.last = None;
+        }
+    }
+
     /// The kept values that stay if these files take the place of the files before, under these terms. The outcomes and
-    /// the readings are taken out of `self`. The error: an allocation failed.
+    /// the readings are taken out of `self`. `frugal` if memory counts more than time. The error: an allocation failed.
     pub(crate) fn staying<H: Threads + Wait + Sync>(
         &mut self,
         rt: &H,
@@ -230,7 +246,7 @@ impl<'t> Standing<'t> {
         files: &Files,
         terms: Terms,
         threads: usize,
-        readers: usize,
+        frugal: bool,
     ) -> Result<Staying<'t>, AllocError>
         requires standing { IsStanding self.old }
         requires threads { 1 ≤ threads }
@@ -253,6 +269,7 @@ impl<'t> Standing<'t> {
         let (outcomes, former) = before.after(rt, alloc, &compared, terms, threads)?;
         let before = mem::replace(&mut self.readings, Readings::new(alloc, terms.prelude));
         let readings = before.after(alloc, &compared, terms.prelude);
+        self.set_frugal(frugal);
         Ok(Staying {
             parses,
             outcomes,
@@ -261,7 +278,7 @@ impl<'t> Standing<'t> {
             readings,
             arena: self.arena,
             seed: self.kept.seed,
-            readers,
+            frugal,
         })
     }
 
@@ -280,7 +297,8 @@ impl<'t> Standing<'t> {
     {
         let mut before = self;
         let terms = before.kept.outcomes.terms;
-        let staying = before.staying(rt, alloc, &files, terms, threads, threads)?;
+        let frugal = before.kept.frugal;
+        let staying = before.staying(rt, alloc, &files, terms, threads, frugal)?;
         free_ends(rt, alloc, staying.former, threads);
         Ok(Standing {
             files,
@@ -289,6 +307,7 @@ impl<'t> Standing<'t> {
                 outcomes: staying.outcomes,
                 last: None,
                 paid: before.kept.paid,
+                frugal: before.kept.frugal,
                 requests: before.kept.requests,
                 seed: before.kept.seed,
             },
