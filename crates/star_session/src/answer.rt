@@ -8,6 +8,7 @@ ghost use Rattle.star_memo.specs.Compared.{AreSame};
 ghost use Rattle.star_memo.specs.Readings.{AreReadings};
 ghost use Rattle.star_memo.specs.Lasting.{AreEndsNow};
 ghost use Rattle.star_memo.specs.Parses.{AreKept};
+ghost use Rattle.star_reading.specs.Found.{Within};
 ghost use Rattle.star_session.specs.Answers.{IsRefusalOf, IsReportOf, IsReportText, IsReported};
 ghost use Rattle.star_memo.specs.Outcomes.{AreAlike, AreOutcomes};
 ghost use Rattle.star_session.specs.Changes as spec;
@@ -19,6 +20,7 @@ use crate::changes::files_after;
 use crate::refusal::line_of;
 use crate::request::Request;
 use crate::standing::{Last, Standing, Staying};
+use crate::weight::{Spent, are_values_large, is_frugal, spent_on};
 use star_bundle::bundle::{AskedFor, asked_in};
 use star_bundle::error::ServeError;
 use star_label::files::Files;
@@ -199,6 +201,24 @@ fn run_changed<H: Threads + Wait + Sync>(
     Ok(ends)
 }
 
+/// The numbers of the changed files that are to be run first. None if no outcome can last by it, or if the outcomes that
+/// they had take more than half of the memory that may be kept. The error: an allocation failed.
+fn first_within(
+    alloc: Global,
+    compared: &Compared<'_>,
+    former: &[Option<GoodEnd>],
+    keep: usize,
+) -> Result<Option<Vec<usize>>, AllocError>
+    ensures some { IfOk result (λ r. IfSome r (λ _. 0 < length former.now)) }
+    ensures within { IfOk result (λ r. IfSome r (λ ns. Within compared.now.files ns.items)) }
+{
+    let first = first_to_run(alloc, compared, former)?;
+    match first {
+        Some(changed) if are_values_large(alloc, former, &changed, keep / 2) => Ok(None),
+        _ => Ok(first),
+    }
+}
+
 /// Runs the changed files, and then adds the ends of the files that stay though files that they need have changed. So
 /// these need not run again.
 fn keep_lasting<H: Threads + Wait + Sync>(
@@ -207,11 +227,11 @@ fn keep_lasting<H: Threads + Wait + Sync>(
     before: &Files,
     asked: &mut AskedFor,
     staying: &mut Staying<'_>,
-    loaders: usize,
+    limits: Limits,
     steps: u32,
 ) -> Result<(), ServeError>
     requires prelude { IfSome asked.old.prelude (λ n. n < length asked.old.files) }
-    requires loaders { (1 ≤ loaders) × (loaders ≤ 64) }
+    requires loaders { (1 ≤ limits.loaders) × (limits.loaders ≤ 64) }
     requires steps { (1 ≤ steps) × (steps ≤ 100000000) }
     requires parses { AreKept asked.old.files staying.old.parses.all.items }
     requires outcomes { AreOutcomes asked.old.files asked.old.prelude steps staying.old.outcomes.all.items }
@@ -232,10 +252,10 @@ fn keep_lasting<H: Threads + Wait + Sync>(
 {
     let former = staying.former.as_slice();
     let compared = Compared::new(before, &asked.files, staying.same.as_slice());
-    let Some(changed) = first_to_run(alloc, &compared, former)? else {
+    let Some(changed) = first_within(alloc, &compared, former, limits.keep)? else {
         return Ok(());
     };
-    let ends = match run_changed(rt, alloc, asked, changed, staying, loaders, steps) {
+    let ends = match run_changed(rt, alloc, asked, changed, staying, limits.loaders, steps) {
         Ok(ends) => ends,
         Err(error) => return Err(error),
     };
@@ -262,7 +282,7 @@ struct After<'t> {
 pub(crate) struct Limits {
     /// How many loaders run, from 1 to 64.
     pub loaders: usize,
-    /// The most bytes that the texts with kept values may have after a request.
+    /// How much memory a session may take beyond that of its largest request, in bytes.
     pub keep: usize,
 }
 
@@ -276,38 +296,23 @@ struct Crew {
 }
 
 /// If the runs of all files took fewer steps than this in the last request, one loader runs them.
-const FEW_STEPS: u64 = 1_000_000;
+const FEW_STEPS: usize = 100_000;
 
-/// How many threads are at work on a request with these files. If the texts have far more bytes than may be kept, all are
-/// parsed again for each request, and memory counts more than time: then one thread parses and reads, and it also runs
-/// the files if they took few steps in the last request. The C library keeps a part of the memory for each thread, as large
-/// as the thread ever needed, and several threads share work in another way in each request.
-fn crew_for(files: &Files, limits: Limits, paid: Option<u64>) -> Crew
+/// How many threads are at work on a request with these files. If these take more memory than may be kept, memory counts
+/// more than time: then one thread parses and reads, and it also runs the files if they took few steps in the last
+/// request. The C library keeps a part of the memory for each thread, as large as the thread ever needed, and several
+/// threads share work in another way in each request.
+fn crew_for(files: &Files, limits: Limits, spent: Spent) -> Crew
     requires { (1 ≤ limits.loaders) × (limits.loaders ≤ 64) }
     ensures { (1 ≤ result.loaders) × (result.loaders ≤ 64) }
 {
     let loaders = limits.loaders;
-    let mut bytes: usize = 0;
-    for n in 0..files.len() {
-        bytes = bytes.saturating_add(files.text(n).len());
+    let frugal = is_frugal(files, spent, loaders, limits.keep);
+    if frugal && spent.all_well && spent.steps < FEW_STEPS {
+        Crew { loaders: 1, frugal }
+    } else {
+        Crew { loaders, frugal }
     }
-    let frugal = bytes / 16 > limits.keep;
-    match paid {
-        Some(steps) if frugal && steps < FEW_STEPS => Crew { loaders: 1, frugal },
-        _ => Crew { loaders, frugal },
-    }
-}
-
-/// The steps that the runs of files took with these ends. None if some of the reached files did not end well.
-fn paid_by(ends: &[Option<GoodEnd>], reached: &[usize]) -> Option<u64> {
-    let mut paid: u64 = 0;
-    for n in reached {
-        let Some(Some(end)) = ends.get(*n) else {
-            return None;
-        };
-        paid = paid.saturating_add(u64::from(end.body.paid));
-    }
-    Some(paid)
 }
 
 /// Makes the changes of a request, and the report of the files after them.
@@ -344,14 +349,17 @@ fn report_after<'t, H: Threads + Wait + Sync>(
         Err(error) => return Err(error),
     };
     let (steps, wanted) = (question.steps, question.wanted);
-    let Crew { loaders, frugal } = crew_for(&asked.files, limits, standing.kept.paid);
+    let Crew { loaders, frugal } = crew_for(&asked.files, limits, standing.kept.spent);
     let terms = Terms {
         prelude: asked.prelude,
         steps,
     };
     let mut staying = standing.staying(rt, alloc, &asked.files, terms, loaders, frugal)?;
+    let limits = Limits { loaders, ..limits };
     let before = &standing.files;
-    keep_lasting(rt, alloc, before, &mut asked, &mut staying, loaders, steps)?;
+    keep_lasting(rt, alloc, before, &mut asked, &mut staying, limits, steps)?;
+    let former = mem::replace(&mut staying.former, Vec::new(alloc));
+    free_ends(rt, alloc, former, loaders);
     let reported = report_of(rt, alloc, &asked, &mut staying, wanted, loaders, steps)?;
     let Reported {
         text: report,
@@ -359,7 +367,6 @@ fn report_after<'t, H: Threads + Wait + Sync>(
         reached,
         ballasts,
     } = reported;
-    free_ends(rt, alloc, staying.former, loaders);
     free_ends(rt, alloc, staying.outcomes.all, loaders);
     Ok(After {
         files: asked.files,
@@ -411,12 +418,20 @@ pub(crate) fn answered<H: Threads + Wait + Sync>(
         ballasts,
     } = after;
     standing.files = files;
-    standing.kept.paid = paid_by(&outcomes.all, &reached);
+    let Limits { loaders, keep } = limits;
+    standing.kept.spent = spent_on(
+        alloc,
+        &standing.files,
+        &outcomes.all,
+        &reached,
+        loaders,
+        keep,
+    );
     standing.kept.parses = parses;
     standing.kept.outcomes = outcomes;
     standing.kept.last = Some(last);
     standing.readings = readings;
-    standing.trim(rt, alloc, &reached, limits.keep);
+    standing.trim(rt, alloc, &reached, loaders, keep);
     // They are freed last, when what the loaders have made is freed.
     drop(ballasts);
     Ok(line)

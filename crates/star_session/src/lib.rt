@@ -5,7 +5,8 @@
 //! their texts, and the outcomes and the readings of the files that the last request reached. `answer` runs a request
 //! and writes its answer. If the files are not sent, `folder` first looks at the files of a folder. `session` goes
 //! through all requests. Readings borrow from an arena of trees. When it is full, both are freed: a generation has
-//! ended. The form of requests and answers is in `docs/REQUESTS.md`.
+//! ended. `weight` estimates how much memory files take, and `values` how much the values of their runs do; by this it is
+//! decided what is kept. The form of requests and answers is in `docs/REQUESTS.md`.
 #![tactic(auto)]
 
 mod answer;
@@ -17,3 +18,5 @@ mod refusal;
 pub mod request;
 pub mod session;
 mod standing;
+mod values;
+mod weight;

@@ -38,7 +38,7 @@ pub struct Settings {
     pub loaders: usize,
     /// The seed for the hashes of keys. No answer depends on it.
     pub seed: u64,
-    /// The most bytes that the texts with kept values may have after a request.
+    /// How much memory a session may take beyond that of its largest request, in bytes (`docs/REQUESTS.md`).
     pub keep: usize,
     /// The defaults of a request, for members that it lacks.
     pub defaults: Defaults,
@@ -308,7 +308,8 @@ fn answer_lines<H: Threads + Wait + Sync, F: Repo + Copy, R: Source, W: Sink>(
         if !next_answer(rt, alloc, folder, session, settings, reader, writer)? {
             return Ok(None);
         }
-        if let Some(arena) = session.standing.next_arena(alloc, settings.keep) {
+        let (loaders, keep) = (settings.loaders, settings.keep);
+        if let Some(arena) = session.standing.next_arena(alloc, loaders, keep) {
             return Ok(Some(arena));
         }
     }

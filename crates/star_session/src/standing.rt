@@ -16,6 +16,7 @@ ghost use Rattle.star_session.specs.Requests.{asked_by, question_of};
 use crate::changes::are_as;
 use crate::question::Question;
 use crate::request::Request;
+use crate::weight::{Spent, are_trees_large, is_frugal, texts_kept};
 use star_label::files::Files;
 use star_memo::compared::{Compared, same_texts};
 use star_memo::lasting::Change;
@@ -43,8 +44,8 @@ pub(crate) struct KeptValues {
     pub outcomes: Outcomes,
     /// The last report that was made of these files.
     pub last: Option<Last>,
-    /// How many steps the runs for the last report took, if all files ended well.
-    pub paid: Option<u64>,
+    /// What the runs for the last report took.
+    pub spent: Spent,
     /// Whether memory counts more than time.
     pub frugal: bool,
     /// The number of requests that were run.
@@ -59,7 +60,7 @@ impl Drop for KeptValues {
             parses: _,
             outcomes: _,
             last: _,
-            paid: _,
+            spent: _,
             frugal: _,
             requests: _,
             seed: _,
@@ -107,7 +108,7 @@ impl KeptValues {
             parses: Parses::new(alloc),
             outcomes: Outcomes::new(alloc, terms),
             last: None,
-            paid: None,
+            spent: Spent::UNKNOWN,
             frugal: false,
             requests: 0,
             seed,
@@ -173,9 +174,11 @@ impl<'t> Standing<'t> {
         }
     }
 
-    /// An arena to take the place of this one, if this one is full: `keep` bytes of texts may have trees. None if there
-    /// is no memory for another one.
-    pub(crate) fn next_arena(&self, alloc: Global, keep: usize) -> Option<Arena> {
+    /// An arena to take the place of this one, if this one is full: `keep` bytes of texts may have trees, but none if all
+    /// trees may take more memory. None if there is no memory for another one.
+    pub(crate) fn next_arena(&self, alloc: Global, threads: usize, keep: usize) -> Option<Arena> {
+        let large = are_trees_large(&self.files, threads, keep);
+        let keep = if large { 0 } else { keep };
         if !self.arena.is_full(&self.files, &self.kept.parses, keep) {
             return None;
         }
@@ -265,6 +268,8 @@ impl<'t> Standing<'t> {
         let same = same_texts(alloc, &self.files, files)?;
         let compared = Compared::new(&self.files, files, same.as_slice());
         let parses = self.kept.parses.after(alloc, &compared)?;
+        // The trees of texts that have changed go now, unless the arena shares them.
+        self.kept.parses = Parses::new(alloc);
         let before = mem::replace(&mut self.kept.outcomes, Outcomes::new(alloc, terms));
         let (outcomes, former) = before.after(rt, alloc, &compared, terms, threads)?;
         let before = mem::replace(&mut self.readings, Readings::new(alloc, terms.prelude));
@@ -306,7 +311,7 @@ impl<'t> Standing<'t> {
                 parses: staying.parses,
                 outcomes: staying.outcomes,
                 last: None,
-                paid: before.kept.paid,
+                spent: before.kept.spent,
                 frugal: before.kept.frugal,
                 requests: before.kept.requests,
                 seed: before.kept.seed,
@@ -316,16 +321,27 @@ impl<'t> Standing<'t> {
         })
     }
 
-    /// Records which files a request reached. If the texts have more than `keep` bytes, the trees that no request has
-    /// reached for the longest time go, and all outcomes.
-    pub(crate) fn trim<H: Threads>(&mut self, rt: &H, alloc: Global, reached: &[usize], keep: usize)
+    /// Records which files a request reached. If the trees of others may take more memory than `keep` allows, those go that
+    /// no request has reached for the longest time. If memory counts more than time, all trees and outcomes go.
+    pub(crate) fn trim<H: Threads>(
+        &mut self,
+        rt: &H,
+        alloc: Global,
+        reached: &[usize],
+        threads: usize,
+        keep: usize,
+    )
         requires { IsStanding self.old }
         ensures files { self.new.files ≡ self.old.files }
         ensures standing { IsStanding self.new }
     {
         self.kept.requests = self.kept.requests.saturating_add(1);
         self.kept.parses.touch_each(reached, self.kept.requests);
-        if self.kept.parses.trim(alloc, &self.files, keep) {
+        let frugal = is_frugal(&self.files, self.kept.spent, threads, keep);
+        let keep = if frugal { 0 } else { keep };
+        let texts = texts_kept(&self.files, reached, keep);
+        self.kept.parses.trim(alloc, &self.files, texts);
+        if frugal {
             let none = Outcomes::new(alloc, self.kept.outcomes.terms);
             mem::replace(&mut self.kept.outcomes, none).free_apart(rt);
         }

@@ -38,7 +38,7 @@ fn is_folder(rt: &HostRuntime, path: &str) -> bool {
 }
 
 /// Answers requests until standard input ends: about the files of the folder at `dir`, or else about those that they
-/// send. Something is kept of texts of at most `keep` bytes from one request to the next. The loaders are threads of
+/// send. All of them may take some `keep` bytes of memory more than the largest alone. The loaders are threads of
 /// `threads`.
 pub(crate) fn answer_requests<H: Threads + Wait + Sync>(
     rt: &HostRuntime,
