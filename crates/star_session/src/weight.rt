@@ -14,6 +14,12 @@ const LOW_COST: usize = 5;
 /// The bytes of memory that trees of replaced texts take for each byte, beyond a fifth of what a request takes.
 const REPLACED_COST: usize = 14;
 
+/// The most bytes of memory, for each byte of the texts, that lie unused between trees of replaced texts and new ones.
+const BETWEEN_COST: usize = 8;
+
+/// The most bytes of memory that lie unused between them in the part of a thread.
+const BETWEEN_BYTES: usize = 4_194_304;
+
 /// The most bytes of memory that the values of a file and their texts take for each step of its run.
 const STEP_COST: usize = 40;
 
@@ -55,8 +61,12 @@ fn text_bytes(files: &Files) -> usize {
 /// Whether the trees of all texts, if these are replaced, may take more than `keep` bytes of memory, with what this many
 /// threads do not use.
 pub(crate) fn are_trees_large(files: &Files, threads: usize, keep: usize) -> bool {
-    let trees = text_bytes(files).saturating_mul(REPLACED_COST);
-    trees.saturating_add(threads.saturating_mul(THREAD_BYTES)) > keep
+    let bytes = text_bytes(files);
+    let trees = bytes.saturating_mul(REPLACED_COST);
+    let most = threads.saturating_mul(BETWEEN_BYTES);
+    let between = bytes.saturating_mul(BETWEEN_COST).min(most);
+    let unused = threads.saturating_mul(THREAD_BYTES);
+    trees.saturating_add(between).saturating_add(unused) > keep
 }
 
 /// How many of `keep` bytes of memory are left for values, besides the trees of all files and what this many threads do
