@@ -35,7 +35,7 @@ pub const BY_TWO: RunOptions<'static> = RunOptions {
     loaders: 2,
     steps: 100_000,
     seed: 1,
-    frugal: false,
+    ballast: None,
 };
 
 /// The files with these labels and texts.

@@ -53,7 +53,7 @@ fn answer_over<'t>(
         loaders: 1,
         steps,
         seed,
-        frugal: false,
+        ballast: None,
     };
     let mut run = match run_alone(alloc, files, trees, reads, options) {
         Ok(run) => run,

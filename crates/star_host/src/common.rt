@@ -10,6 +10,7 @@ ghost use Rattle.star_reading.specs.Readings.{loads_at, table_of};
 use crate::options::RunOptions;
 use star_label::files::Files as Labels;
 use star_outcome::good_end::GoodEnd;
+use star_outcome::memory::Size;
 use star_outcome::module::{Body, Module};
 use star_outcome::shelf::Shelf;
 use star_reading::reading::{Read, Reads, loads_in};
@@ -34,8 +35,8 @@ pub struct LoadContext<'s, 'r, 'p, 't> {
     pub loaders: usize,
     pub steps: u32,
     pub seed: u64,
-    /// Whether memory counts more than time.
-    pub frugal: bool,
+    /// The ballast of each loader, if memory counts more than time.
+    pub ballast: Option<Size>,
 }
 
 /// The number of a file: there are at most 10,000.
@@ -86,7 +87,7 @@ impl<'s, 'r, 'p, 't> LoadContext<'s, 'r, 'p, 't> {
             loaders: options.loaders,
             steps: options.steps,
             seed: options.seed,
-            frugal: options.frugal,
+            ballast: options.ballast,
         }
     }
 

@@ -35,7 +35,7 @@ pub use loading::{LoadError, load};
 pub use options::{Known, RunOptions};
 pub use running::{RunError, run, run_in};
 pub use star_outcome::good_end::GoodEnd;
-pub use star_outcome::memory::Ballast;
+pub use star_outcome::memory::{Ballast, Size};
 pub use star_outcome::outcome::Run;
 pub use star_outcome::run_id::RunId;
 pub use star_outcome::shelf::Shelf;

@@ -1,6 +1,7 @@
 //! The options of a run, and the facts that are known before it.
 
 use star_outcome::good_end::GoodEnd;
+use star_outcome::memory::Size;
 use star_reading::parses::Parsed;
 use star_reading::reading::Trees;
 
@@ -18,8 +19,9 @@ pub struct RunOptions<'a> {
     /// The seed for the hashes of keys. No answer depends on it: if it differs from run to run, nobody who writes a
     /// file can choose keys that all collide.
     pub seed: u64,
-    /// Whether memory counts more than time. Then one thread reads files, and the loaders have ballasts.
-    pub frugal: bool,
+    /// The ballast of each loader, if memory counts more than time. Then one thread reads files, and a thread of its own
+    /// starts the loaders. None if time counts more.
+    pub ballast: Option<Size>,
 }
 
 /// The facts that are known of the files before a run, besides the readings of some.

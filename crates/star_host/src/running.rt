@@ -25,7 +25,7 @@ use star_cache::{Book, LoadCache, Seat};
 use star_flow::{Flow, Graph};
 use star_label::files::Files as Labels;
 use star_outcome::good_end::GoodEnd;
-use star_outcome::memory::{Ballast, threads_for};
+use star_outcome::memory::{Ballast, Size, threads_for};
 use star_outcome::outcome::{Kept, Run};
 use star_outcome::run_id::RunId;
 use star_outcome::shelf::Shelf;
@@ -75,6 +75,21 @@ pub(crate) struct Loader<J: RunId> {
     ballast: Option<Ballast>,
 }
 
+impl<J: RunId> Loader<J> {
+    /// Allocates the ballast before the first file is run. A loader that starts when others have run all files needs
+    /// none: it may have the part of the memory of one of them, and its ballast would lie between what that one has made.
+    fn take_ballast(&mut self, alloc: Global, size: Option<Size>)
+        ensures { self.new.seat ≡ self.old.seat }
+    {
+        if self.ballast.is_some() {
+            return;
+        }
+        if let Some(size) = size {
+            self.ballast = Ballast::new(alloc, size).ok();
+        }
+    }
+}
+
 /// The root at an index, which may be asked for.
 pub fn root_at<J: RunId>(roots: &[usize], i: usize) -> usize
     requires i { i < length roots.now }
@@ -118,13 +133,13 @@ fn take_ready<'s, 'r, 'p, 't, J: RunId, R: Wait, G: Gate>(
     common: &LoadContext<'s, 'r, 'p, 't>,
     gate: &G,
     cache: &LoadCache<Told<J>>,
-    seat: &mut Seat<Told<J>>,
+    loader: &mut Loader<J>,
     flow: &Flow,
     trace: &Trace<J>,
 ) -> Option<LoadError>
     requires world { IsContext J.files J.plan J.shelf common.now }
     requires within { IsWithin J.files J.plan }
-    ensures number { seat.new.number ≡ seat.old.number }
+    ensures number { loader.new.seat.number ≡ loader.old.seat.number }
 {
     let mut error = None;
     let mut ended = None;
@@ -132,7 +147,8 @@ fn take_ready<'s, 'r, 'p, 't, J: RunId, R: Wait, G: Gate>(
         let Some(n) = flow.take(rt, ended) else {
             return error;
         };
-        let settled = settle_one(rt, common, gate, cache, seat, n, trace);
+        loader.take_ballast(common.alloc, common.ballast);
+        let settled = settle_one(rt, common, gate, cache, &mut loader.seat, n, trace);
         error = reason(error, settled.err());
         ended = Some(n);
     }
@@ -157,10 +173,9 @@ fn work<'s, 'r, 'p, 't, J: RunId, R: Wait, G: Gate>(
     ensures { loader.new.seat.number ≡ loader.old.seat.number }
 {
     if common.loaders > 1 {
-        if common.frugal {
-            loader.ballast = Ballast::new(common.alloc).ok();
-        }
-        loader.error = take_ready(rt, common, gate, cache, &mut loader.seat, flow, trace);
+        loader.error = take_ready(rt, common, gate, cache, loader, flow, trace);
+    } else {
+        loader.take_ballast(common.alloc, common.ballast);
     }
     let roots = common.roots;
     let count = roots.len();
@@ -242,7 +257,7 @@ fn start_apart<'s, 'r, 'p, 't, J: RunId + Send + Sync, R: Threads + Wait + Sync,
     requires loaders { (1 ≤ common.now.loaders) × (common.now.loaders ≤ 64) }
     ensures { map (λ w. w.seat.number) loaders.new ≡ map (λ w. w.seat.number) loaders.old }
 {
-    if !common.frugal {
+    if common.ballast.is_none() {
         start_loaders(rt, common, gate, cache, loaders, trace, flow);
         return;
     }
@@ -473,7 +488,7 @@ pub fn run_in<'t, R: Threads + Wait + Sync, G: Gate + Sync>(
         loaders,
         ..
     } = options;
-    let readers = threads_for(loaders, options.frugal);
+    let readers = threads_for(loaders, options.ballast.is_some());
     let texts = Texts {
         files,
         trees: known.trees,

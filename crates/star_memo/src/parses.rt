@@ -1,6 +1,6 @@
 //! The results of parsing the texts of files, which are kept from one request to the next.
 
-ghost use Rattle.std.specs.Prelude.{◌≡◌, ◌<◌, ◌≤◌, [], false, true, All, List, ℕ, IfOk, IfSome, IsSome, None, OnOk, Some, length, slice_index_or, vec_len};
+ghost use Rattle.std.specs.Prelude.{◌≡◌, ◌<◌, ◌≤◌, [], true, All, List, ℕ, IfOk, IfSome, IsSome, None, OnOk, Some, length, slice_index_or, vec_len};
 ghost use Rattle.std.specs.Arc.{arc_value};
 ghost use Rattle.star_label.specs.Files.{File, label_at, text_at};
 ghost use Rattle.star_memo.specs.Parses.{AreKept, AreMade, AreSharesMade, Has, IsKept, IsParse, IsSameFile, IsTouched, kept_bytes};
@@ -344,32 +344,29 @@ impl Parses {
     }
 
     /// Lets results go until the texts of those that stay have at most `keep` bytes in all: first those that no request
-    /// has reached for the longest time. If an allocation fails, all go. It answers whether any went.
-    pub fn trim(&mut self, alloc: Global, files: &Files, keep: usize) -> bool
+    /// has reached for the longest time. If an allocation fails, all go.
+    pub fn trim(&mut self, alloc: Global, files: &Files, keep: usize)
         requires { AreKept files.now self.old.all.items }
         ensures kept { AreKept files.now self.new.all.items }
-        ensures within { kept_bytes files.now self.old.all.items ≤ keep
-            → (result ≡ false) × (self.new ≡ self.old) }
-        ensures told { result ≡ false → self.new ≡ self.old }
+        ensures within { kept_bytes files.now self.old.all.items ≤ keep → self.new ≡ self.old }
     {
         let mut bytes = self.bytes(files);
         if bytes <= keep {
-            return false;
+            return;
         }
         let Ok(oldest) = self.oldest_first(alloc) else {
             self.all = Vec::new(alloc);
-            return true;
+            return;
         };
         for (_, n) in oldest {
             if bytes <= keep {
-                return true;
+                return;
             }
             self.forget(n);
             if n < files.len() {
                 bytes = bytes.saturating_sub(files.text(n).len());
             }
         }
-        true
     }
 
     /// Lets the result of a file go.

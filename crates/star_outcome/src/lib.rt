@@ -11,8 +11,9 @@
 //! - `OpenFile` is a file whose loads are being asked for, on the stack of a loader. It is not a frame of variables.
 //!   `ReachableStores` and `StoreRow` collect the stores that its body may read.
 //! - `Trace` has the refused loads. Each is on a cycle. `Run` is the result of a run: the modules of all reached files,
-//!   by number. A `Ballast` is a block that is freed after all that a loader made. `GoodEnd` is the end of a file whose run went well. A caller may keep it, and give it to a later run.
-//!   If files that it needs have changed since, it is stale: `lasting` puts its body over the stores that they have now.
+//!   by number. A `Ballast` fills the first heap of the memory of a loader. `GoodEnd` is the end of a file whose run went
+//!   well. A caller may keep it, and give it to a later run. If files that it needs have changed since, it is stale:
+//!   `lasting` puts its body over the stores that they have now.
 //! - `RunId`, called `J` in signatures, is the identity of one run: its files, their plan, its shelf. Only contracts
 //!   see it. It keeps the notes of two runs apart.
 //!

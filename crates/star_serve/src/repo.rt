@@ -60,7 +60,7 @@ fn reported_of<'t, H: Threads + Wait + Sync, W: Sink, E: Sink>(
         asked: &asked,
         trees,
         parses: parses.as_slice(),
-        frugal: false,
+        ballast: None,
     };
     let outcome = reported_over(rt, alloc, &job, writer, errors, options);
     // The process ends next, and the system takes back all of its memory at once.

@@ -30,7 +30,7 @@ use star_host::{
     Ballast, GoodEnd, Known, Parsed, Reads, Run, RunError, RunOptions, Texts, Trees, read_parsed,
     run_in,
 };
-use star_outcome::memory::threads_for;
+use star_outcome::memory::{Size, threads_for};
 pub use star_report::wanted::{Output, Wanted};
 use std::alloc::{AllocError, Global};
 use std::mem;
@@ -74,8 +74,8 @@ pub struct Job<'a, 't> {
     pub trees: &'t Trees,
     /// The results of parsing the texts that were parsed before, by the numbers of their files.
     pub parses: &'a [Option<Parsed<'t>>],
-    /// Whether memory counts more than time.
-    pub frugal: bool,
+    /// The ballast of each loader, if memory counts more than time.
+    pub ballast: Option<Size>,
 }
 
 /// A run, and its output.
@@ -120,7 +120,7 @@ fn checked<'t, H: Threads + Wait + Sync>(
         before,
         roots,
         job.asked.prelude,
-        threads_for(loaders, job.frugal),
+        threads_for(loaders, job.ballast.is_some()),
     )?;
     let it = check(alloc, files, &read, roots, only_roots)?;
     *reads = read;
@@ -162,7 +162,6 @@ fn answered<'t, H: Threads + Wait + Sync>(
     let asked = job.asked;
     let files = &asked.files;
     let roots = asked.roots.as_slice();
-    let loaders = options.loaders;
     let gate = Watched {
         rt,
         alloc,
@@ -177,10 +176,10 @@ fn answered<'t, H: Threads + Wait + Sync>(
     let run_options = RunOptions {
         roots,
         prelude: asked.prelude,
-        loaders,
+        loaders: options.loaders,
         steps: options.steps,
         seed: options.seed,
-        frugal: job.frugal,
+        ballast: job.ballast,
     };
     let outcome = run_in(rt, alloc, files, known, reads, run_options, &gate);
     gate.end();
@@ -189,10 +188,7 @@ fn answered<'t, H: Threads + Wait + Sync>(
         Err(RunError::Memory) => return Err(ServeError::Memory),
         Err(RunError::Unpublished) => return Err(ServeError::Unpublished),
     };
-    let output = &options.output;
-    let frugal = job.frugal;
-    let threads = threads_for(loaders, frugal);
-    let written = written_of(rt, alloc, asked, reads, &mut run, output, threads, frugal)?;
+    let written = written_of(rt, alloc, job, reads, &mut run, options)?;
     Ok(Answer { run, written })
 }
 
@@ -302,7 +298,7 @@ pub fn written_over<'t, H: Threads + Wait + Sync>(
     let ends = run.good_ends(alloc, job.asked.files.len())?;
     let reached = read_numbers(alloc, reads)?;
     let ballasts = run.take_ballasts(alloc);
-    free_run(rt, run, job.frugal);
+    free_run(rt, run, job.ballast.is_some());
     Ok(Finished {
         written,
         ends,
@@ -476,7 +472,7 @@ pub(crate) fn reported<H: Threads + Wait + Sync, W: Sink, E: Sink>(
         asked,
         trees: &trees,
         parses: parses.as_slice(),
-        frugal: false,
+        ballast: None,
     };
     let outcome = reported_over(rt, alloc, &job, writer, errors, options);
     // The process ends next, and the system takes back all of its memory at once.

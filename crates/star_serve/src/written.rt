@@ -11,10 +11,11 @@ ghost use Rattle.star_report.specs.Output.{IsSaid};
 ghost use Rattle.star_report.specs.declared.wanted.Output.TheVariants as output;
 ghost use Rattle.star_serve.specs.Written.{IsLineOf, IsTextOf};
 
-use star_bundle::bundle::AskedFor;
+use crate::serve::{Job, Options};
 use star_check::check::{Checked, check};
 use star_host::{Reads, Run};
 use star_label::files::Files;
+use star_outcome::memory::threads_for;
 use star_report::got::{Got, Lack, globals_of};
 use star_report::graph::graph;
 use star_report::report::{ReportOptions, all_good, report};
@@ -50,27 +51,27 @@ fn with_answer(alloc: Global, run: &mut Run, text: Vec<u8>) -> Written
 fn report_written<R: Threads + Sync>(
     rt: &R,
     alloc: Global,
-    asked: &AskedFor,
+    job: &Job<'_, '_>,
     reads: &Reads,
     run: &mut Run,
     wanted: Wanted,
-    threads: usize,
-    frugal: bool,
+    loaders: usize,
 ) -> Result<Written, AllocError>
-    requires files { length run.old.cells ≡ length asked.now.files }
-    requires reads { length reads.now.all.items ≡ length asked.now.files }
+    requires files { length run.old.cells ≡ length job.now.asked.now.files }
+    requires reads { length reads.now.all.items ≡ length job.now.asked.now.files }
     requires loads { LeadWithin reads.now.all.items }
     ensures same { run.new ≡ run.old }
-    ensures text { let a = asked.now in IfOk result (λ w.
+    ensures text { let a = job.now.asked.now in IfOk result (λ w.
         IsTextOf (output.Report wanted) a.files a.roots.items reads.now.all.items run.old w.text.items w.all_ok) }
     ensures said { IfOk result (λ w. (plan : Plan)
-        → IsSaid (output.Report wanted) asked.now.files plan w.all_ok (string_bytes w.said)) }
+        → IsSaid (output.Report wanted) job.now.asked.now.files plan w.all_ok (string_bytes w.said)) }
 {
-    let files = &asked.files;
-    let roots = asked.roots.as_slice();
+    let files = &job.asked.files;
+    let roots = job.asked.roots.as_slice();
+    let frugal = job.ballast.is_some();
     let options = ReportOptions {
         wanted,
-        threads,
+        threads: threads_for(loaders, frugal),
         frugal,
     };
     let text = report(rt, alloc, files, reads, run, roots, options)?;
@@ -164,29 +165,27 @@ fn check_written(
 pub(crate) fn written_of<R: Threads + Sync>(
     rt: &R,
     alloc: Global,
-    asked: &AskedFor,
+    job: &Job<'_, '_>,
     reads: &Reads,
     run: &mut Run,
-    output: &Output,
-    threads: usize,
-    frugal: bool,
+    options: &Options,
 ) -> Result<Written, AllocError>
-    requires files { length run.old.cells ≡ length asked.now.files }
-    requires reads { length reads.now.all.items ≡ length asked.now.files }
+    requires files { length run.old.cells ≡ length job.now.asked.now.files }
+    requires reads { length reads.now.all.items ≡ length job.now.asked.now.files }
     requires loads { LeadWithin reads.now.all.items }
-    requires roots { All (λ n. n < length asked.now.files) asked.now.roots.items }
+    requires roots { All (λ n. n < length job.now.asked.now.files) job.now.asked.now.roots.items }
     ensures same { run.new ≡ run.old }
-    ensures text { let a = asked.now in IfOk result (λ w.
-        IsTextOf output.now a.files a.roots.items reads.now.all.items run.old w.text.items w.all_ok) }
-    ensures said { let a = asked.now in IfOk result (λ w.
-        IsLineOf output.now a.files a.roots.items reads.now.all.items run.old w.all_ok (string_bytes w.said)) }
+    ensures text { let a = job.now.asked.now in IfOk result (λ w.
+        IsTextOf options.now.output a.files a.roots.items reads.now.all.items run.old w.text.items w.all_ok) }
+    ensures said { let a = job.now.asked.now in IfOk result (λ w.
+        IsLineOf options.now.output a.files a.roots.items reads.now.all.items run.old w.all_ok (string_bytes w.said)) }
 {
-    let files = &asked.files;
-    let roots = asked.roots.as_slice();
-    match output {
-        Output::Report(wanted) => report_written(
-            rt, alloc, asked, reads, run, *wanted, threads, frugal,
-        ),
+    let files = &job.asked.files;
+    let roots = job.asked.roots.as_slice();
+    match &options.output {
+        Output::Report(wanted) => {
+            report_written(rt, alloc, job, reads, run, *wanted, options.loaders)
+        }
         Output::Global(name) => globals_written(alloc, files, run, roots, name),
         Output::Graph => graph_written(alloc, files, reads, run),
         Output::Check { only_roots } => check_written(alloc, files, reads, roots, *only_roots),

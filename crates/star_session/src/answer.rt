@@ -20,7 +20,7 @@ use crate::changes::files_after;
 use crate::refusal::line_of;
 use crate::request::Request;
 use crate::standing::{Last, Standing, Staying};
-use crate::weight::{Spent, are_values_large, is_frugal, spent_on};
+use crate::weight::{Limits, Spent, are_values_large, ballast_for, spent_on};
 use star_bundle::bundle::{AskedFor, asked_in};
 use star_bundle::error::ServeError;
 use star_label::files::Files;
@@ -28,9 +28,9 @@ use star_memo::compared::Compared;
 use star_memo::lasting::first_to_run;
 use star_memo::outcomes::{Outcomes, Terms, free_ends};
 use star_memo::parses::Parses;
-use star_memo::readings::{Arena, Readings};
+use star_memo::readings::Readings;
 use star_outcome::good_end::GoodEnd;
-use star_outcome::memory::{Ballast, threads_for};
+use star_outcome::memory::{Ballast, Size, threads_for};
 use star_report::wanted::{Output, Wanted};
 use star_serve::serve::{Finished, Job, Options, written_over};
 use std::alloc::{AllocError, Global};
@@ -47,21 +47,18 @@ struct Reported {
     ballasts: Vec<Ballast>,
 }
 
-/// Runs the roots that are asked for, with trees that lie in an arena; `frugal` if memory counts more than time. A file
-/// whose reading is there is not read again; after it the readings of the run are there too.
-fn run_over<'t, H: Threads + Wait + Sync>(
+/// Runs the roots that are asked for. A file whose end stays is not run again, and one whose reading stays is not read
+/// again; after it the readings of the run are there too.
+fn run_over<H: Threads + Wait + Sync>(
     rt: &H,
     alloc: Global,
     asked: &AskedFor,
-    arena: &'t Arena,
-    ends: &[Option<GoodEnd>],
-    readings: &mut Readings<'t>,
+    staying: &mut Staying<'_>,
     options: &Options,
-    frugal: bool,
 ) -> Result<Finished, ServeError>
-    requires ends { AreEndsNow asked.now.files asked.now.prelude options.now.steps ends.now }
-    requires readings { AreReadings asked.now.files readings.old }
-    requires seen { readings.old.prelude ≡ asked.now.prelude }
+    requires ends { AreEndsNow asked.now.files asked.now.prelude options.now.steps staying.old.outcomes.all.items }
+    requires readings { AreReadings asked.now.files staying.old.readings }
+    requires seen { staying.old.readings.prelude ≡ asked.now.prelude }
     requires roots { All (λ n. n < length asked.now.files) asked.now.roots.items }
     requires prelude { IfSome asked.now.prelude (λ n. n < length asked.now.files) }
     requires loaders { (1 ≤ options.now.loaders) × (options.now.loaders ≤ 64) }
@@ -71,16 +68,24 @@ fn run_over<'t, H: Threads + Wait + Sync>(
         IsOutputFor o.output (asked_view asked.now) o.steps f.written.text.items f.written.all_ok) }
     ensures ends { IfOk result (λ f.
         AreOutcomes asked.now.files asked.now.prelude options.now.steps f.ends.items) }
-    ensures readings { IfOk result (λ _. AreReadings asked.now.files readings.new) }
-    ensures seen { readings.new.prelude ≡ readings.old.prelude }
+    ensures readings { IfOk result (λ _. AreReadings asked.now.files staying.new.readings) }
+    ensures seen { staying.new.readings.prelude ≡ staying.old.readings.prelude }
+    ensures parses { staying.new.parses ≡ staying.old.parses }
+    ensures outcomes { staying.new.outcomes ≡ staying.old.outcomes }
+    ensures former { staying.new.former ≡ staying.old.former }
+    ensures same { staying.new.same ≡ staying.old.same }
 {
     // Its length says that the files are in order.
     let _ = asked.files.len();
+    let arena = staying.arena;
+    let ballast = staying.ballast;
+    let ends = staying.outcomes.all.as_slice();
+    let readings = &mut staying.readings;
     let job = Job {
         asked,
         trees: &arena.trees,
         parses: readings.parses.as_slice(),
-        frugal,
+        ballast,
     };
     let finished = written_over(rt, alloc, &job, ends, &mut readings.reads, options)?;
     readings.reads.take_others();
@@ -138,8 +143,7 @@ fn report_of<H: Threads + Wait + Sync>(
         seed: staying.seed,
     };
     let first = first_files(alloc, asked)?;
-    let frugal = staying.frugal;
-    let readers = threads_for(loaders, frugal);
+    let readers = threads_for(loaders, staying.ballast.is_some());
     let reads = staying.readings.reads.all.as_slice();
     staying
         .parses
@@ -148,14 +152,12 @@ fn report_of<H: Threads + Wait + Sync>(
     staying
         .readings
         .take_parses(rt, arena, &asked.files, &staying.parses)?;
-    let ends = staying.outcomes.all.as_slice();
-    let readings = &mut staying.readings;
     let Finished {
         written,
         ends,
         reached,
         ballasts,
-    } = run_over(rt, alloc, asked, arena, ends, readings, &options, frugal)?;
+    } = run_over(rt, alloc, asked, staying, &options)?;
     let mut text = written.text;
     text.pop();
     Ok(Reported {
@@ -277,22 +279,14 @@ struct After<'t> {
     ballasts: Vec<Ballast>,
 }
 
-/// The limits of a request.
-#[derive(Clone, Copy)]
-pub(crate) struct Limits {
-    /// How many loaders run, from 1 to 64.
-    pub loaders: usize,
-    /// How much memory a session may take beyond that of its largest request, in bytes.
-    pub keep: usize,
-}
-
 /// The threads that are at work on a request.
 #[derive(Clone, Copy)]
 struct Crew {
     /// How many run files, from 1 to 64.
     loaders: usize,
-    /// Whether memory counts more than time. Then one thread parses and reads the files; else as many as run them.
-    frugal: bool,
+    /// The ballast of each, if memory counts more than time. Then one thread parses and reads the files. None if time
+    /// counts more: then as many threads do so as run them.
+    ballast: Option<Size>,
 }
 
 /// If the runs of all files took fewer steps than this in the last request, one loader runs them.
@@ -307,12 +301,10 @@ fn crew_for(files: &Files, limits: Limits, spent: Spent) -> Crew
     ensures { (1 ≤ result.loaders) × (result.loaders ≤ 64) }
 {
     let loaders = limits.loaders;
-    let frugal = is_frugal(files, spent, loaders, limits.keep);
-    if frugal && spent.all_well && spent.steps < FEW_STEPS {
-        Crew { loaders: 1, frugal }
-    } else {
-        Crew { loaders, frugal }
-    }
+    let ballast = ballast_for(files, spent, limits);
+    let few = spent.all_well && spent.steps < FEW_STEPS;
+    let loaders = if ballast.is_some() && few { 1 } else { loaders };
+    Crew { loaders, ballast }
 }
 
 /// Makes the changes of a request, and the report of the files after them.
@@ -349,12 +341,12 @@ fn report_after<'t, H: Threads + Wait + Sync>(
         Err(error) => return Err(error),
     };
     let (steps, wanted) = (question.steps, question.wanted);
-    let Crew { loaders, frugal } = crew_for(&asked.files, limits, standing.kept.spent);
+    let Crew { loaders, ballast } = crew_for(&asked.files, limits, standing.kept.spent);
     let terms = Terms {
         prelude: asked.prelude,
         steps,
     };
-    let mut staying = standing.staying(rt, alloc, &asked.files, terms, loaders, frugal)?;
+    let mut staying = standing.staying(rt, alloc, &asked.files, terms, loaders, ballast)?;
     let limits = Limits { loaders, ..limits };
     let before = &standing.files;
     keep_lasting(rt, alloc, before, &mut asked, &mut staying, limits, steps)?;
@@ -398,15 +390,16 @@ pub(crate) fn answered<H: Threads + Wait + Sync>(
     ensures refused { IfErr result (IsRefusalOf standing.old.files (asked_by request)) }
     ensures same { IfErr result (λ _. standing.new.files ≡ standing.old.files) }
 {
+    let frugal = standing.kept.ballast.is_some();
     if let Some(report) = standing.report_for(&request) {
-        let known = line_of(alloc, id, "report", report, standing.kept.frugal)?;
+        let known = line_of(alloc, id, "report", report, frugal)?;
         return Ok(known);
     }
     let after = match report_after(rt, alloc, standing, request, limits) {
         Ok(after) => after,
         Err(error) => return Err(error),
     };
-    let frugal = standing.kept.frugal;
+    let frugal = standing.kept.ballast.is_some();
     let line = line_of(alloc, id, "report", after.last.report.as_slice(), frugal)?;
     let After {
         files,
@@ -418,21 +411,13 @@ pub(crate) fn answered<H: Threads + Wait + Sync>(
         ballasts,
     } = after;
     standing.files = files;
-    let Limits { loaders, keep } = limits;
-    standing.kept.spent = spent_on(
-        alloc,
-        &standing.files,
-        &outcomes.all,
-        &reached,
-        loaders,
-        keep,
-    );
+    standing.kept.spent = spent_on(alloc, &standing.files, &outcomes.all, &reached, limits);
     standing.kept.parses = parses;
     standing.kept.outcomes = outcomes;
     standing.kept.last = Some(last);
     standing.readings = readings;
-    standing.trim(rt, alloc, &reached, loaders, keep);
-    // They are freed last, when what the loaders have made is freed.
-    drop(ballasts);
+    standing.trim(rt, alloc, &reached, limits);
+    // What the loaders have made is freed, so their ballasts go.
+    standing.lighten(alloc, ballasts);
     Ok(line)
 }

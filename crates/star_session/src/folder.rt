@@ -15,11 +15,12 @@ ghost use Rattle.star_session.specs.Folders.{AnswersBy, AnswersSeen, AreLookedAt
 ghost use Rattle.star_session.specs.Kept.{IsStanding};
 ghost use Rattle.star_session.specs.Requests.{IsIdText, asked_by, question_of};
 
-use crate::answer::{Limits, answered};
+use crate::answer::answered;
 use crate::question::Question;
 use crate::refusal::refusal;
 use crate::request::Request;
 use crate::standing::{KeptValues, Standing};
+use crate::weight::Limits;
 use star_bundle::error::ServeError;
 use star_folder::folder::FolderError;
 use star_label::files::Files;

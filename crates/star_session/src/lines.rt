@@ -6,6 +6,7 @@ ghost use Rattle.star_serve.specs.Stream.{GaveFirst, Gives};
 ghost use Rattle.star_session.specs.Lines.{IsCut, IsLineEnd, IsNext, IsOneLine, IsPiece, ahead_of};
 
 use memchr::memchr;
+use star_outcome::memory::room_for;
 use star_serve::stream::{Failed, Source};
 use std::alloc::{AllocError, Global};
 use std::sync::Wait;
@@ -57,6 +58,9 @@ fn extended(line: &mut Vec<u8>, known: Line, piece: &[u8]) -> Line
     if piece.len() > MOST_BYTES.saturating_sub(line.len()) {
         return Line::TooLong;
     }
+    // A long line is mapped apart, so that it is given back at once, and does not lie between what stays.
+    let room = room_for(line.len().saturating_add(piece.len()), true);
+    let _ = line.reserve(room.saturating_sub(line.len()));
     match line.extend_from_slice(piece) {
         Ok(()) => Line::Ready,
         Err(_) => Line::Lost,

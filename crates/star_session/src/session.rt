@@ -13,17 +13,19 @@ ghost use Rattle.star_session.specs.Requests.{IsIdText, line_too_long, text_of};
 ghost use Rattle.star_session.specs.Session.{IsGenerationOf, IsSession, IsStepOf};
 ghost use Rattle.star_session.specs.declared.request.RequestError.TheVariants as why;
 
-use crate::answer::{Limits, answered};
+use crate::answer::answered;
 use crate::folder::answered_from;
 use crate::lines::{Line, Lines};
 use crate::refusal::{NO_MEMORY, refusal};
 use crate::request::{Defaults, Origin, Request, RequestError, id_text, request_in, value_in};
 use crate::standing::{KeptValues, Standing};
+use crate::weight::Limits;
 use serde_json::Value;
 use star_bundle::error::ServeError;
 use star_label::error::LabelError;
 use star_label::files::Files;
 use star_memo::readings::Arena;
+use star_outcome::memory::{Ballast, Size};
 use star_repo::repo::Repo;
 use star_serve::stream::{Sink, Source};
 use std::alloc::{AllocError, Global};
@@ -42,6 +44,19 @@ pub struct Settings {
     pub keep: usize,
     /// The defaults of a request, for members that it lacks.
     pub defaults: Defaults,
+}
+
+impl Settings {
+    /// The limits of each request.
+    fn limits(&self) -> Limits
+        ensures loaders { result.loaders ≡ self.now.loaders }
+        ensures keep { result.keep ≡ self.now.keep }
+    {
+        Limits {
+            loaders: self.loaders,
+            keep: self.keep,
+        }
+    }
 }
 
 /// The refusal of a line that is not a request.
@@ -74,11 +89,7 @@ fn answer_sent<H: Threads + Wait + Sync>(
         standing.old.files standing.new.files line.items) }
     ensures same { IfErr result (λ _. standing.new.files ≡ standing.old.files) }
 {
-    let limits = Limits {
-        loaders: settings.loaders,
-        keep: settings.keep,
-    };
-    match answered(rt, alloc, standing, id, request, limits) {
+    match answered(rt, alloc, standing, id, request, settings.limits()) {
         Ok(line) => Ok(line),
         Err(error) => refusal(alloc, id, error.text()),
     }
@@ -106,11 +117,7 @@ fn answer_request<H: Threads + Wait + Sync, F: Repo + Copy>(
     match settings.defaults.origin {
         Origin::Sent => answer_sent(rt, alloc, standing, id, request, settings),
         Origin::Folder => {
-            let limits = Limits {
-                loaders: settings.loaders,
-                keep: settings.keep,
-            };
-            answered_from(rt, alloc, folder, standing, id, request, limits)
+            answered_from(rt, alloc, folder, standing, id, request, settings.limits())
         }
     }
 }
@@ -308,8 +315,7 @@ fn answer_lines<H: Threads + Wait + Sync, F: Repo + Copy, R: Source, W: Sink>(
         if !next_answer(rt, alloc, folder, session, settings, reader, writer)? {
             return Ok(None);
         }
-        let (loaders, keep) = (settings.loaders, settings.keep);
-        if let Some(arena) = session.standing.next_arena(alloc, loaders, keep) {
+        if let Some(arena) = session.standing.next_arena(alloc, settings.limits()) {
             return Ok(Some(arena));
         }
     }
@@ -392,6 +398,10 @@ pub fn serve_requests<H: Threads + Wait + Sync, F: Repo + Copy, R: Source, W: Si
         lines: Lines::new(alloc)?,
         arena: Arena::new(alloc)?,
     };
+    if settings.limits().are_small() {
+        // Then the first request takes memory as those after it do.
+        drop(Ballast::new(alloc, Size::Heap));
+    }
     for _ in rt.forever() {
         match answer_generation(rt, alloc, folder, begin, settings, reader, writer)? {
             Some(next) => begin = next,

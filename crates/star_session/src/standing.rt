@@ -16,7 +16,7 @@ ghost use Rattle.star_session.specs.Requests.{asked_by, question_of};
 use crate::changes::are_as;
 use crate::question::Question;
 use crate::request::Request;
-use crate::weight::{Spent, are_trees_large, is_frugal, texts_kept};
+use crate::weight::{Limits, Spent, are_trees_large, ballast_for, texts_kept};
 use star_label::files::Files;
 use star_memo::compared::{Compared, same_texts};
 use star_memo::lasting::Change;
@@ -24,6 +24,7 @@ use star_memo::outcomes::{Outcomes, Terms, free_ends};
 use star_memo::parses::Parses;
 use star_memo::readings::{Arena, Readings};
 use star_outcome::good_end::GoodEnd;
+use star_outcome::memory::{Ballast, Size};
 use std::alloc::{AllocError, Global};
 use std::mem;
 use std::sync::Wait;
@@ -46,8 +47,10 @@ pub(crate) struct KeptValues {
     pub last: Option<Last>,
     /// What the runs for the last report took.
     pub spent: Spent,
-    /// Whether memory counts more than time.
-    pub frugal: bool,
+    /// The ballast of each loader, if memory counts more than time.
+    pub ballast: Option<Size>,
+    /// The ballasts of the last run, which were lightened.
+    pub ballasts: Vec<Ballast>,
     /// The number of requests that were run.
     pub requests: u64,
     /// The seed for the hashes of keys in each run.
@@ -61,7 +64,8 @@ impl Drop for KeptValues {
             outcomes: _,
             last: _,
             spent: _,
-            frugal: _,
+            ballast: _,
+            ballasts: _,
             requests: _,
             seed: _,
         } = self;
@@ -91,8 +95,8 @@ pub(crate) struct Staying<'t> {
     pub arena: &'t Arena,
     /// The seed for the hashes of keys in each run.
     pub seed: u64,
-    /// Whether memory counts more than time.
-    pub frugal: bool,
+    /// The ballast of each loader, if memory counts more than time.
+    pub ballast: Option<Size>,
 }
 
 impl KeptValues {
@@ -109,7 +113,8 @@ impl KeptValues {
             outcomes: Outcomes::new(alloc, terms),
             last: None,
             spent: Spent::UNKNOWN,
-            frugal: false,
+            ballast: None,
+            ballasts: Vec::new(alloc),
             requests: 0,
             seed,
         }
@@ -174,11 +179,11 @@ impl<'t> Standing<'t> {
         }
     }
 
-    /// An arena to take the place of this one, if this one is full: `keep` bytes of texts may have trees, but none if all
-    /// trees may take more memory. None if there is no memory for another one.
-    pub(crate) fn next_arena(&self, alloc: Global, threads: usize, keep: usize) -> Option<Arena> {
-        let large = are_trees_large(&self.files, threads, keep);
-        let keep = if large { 0 } else { keep };
+    /// An arena to take the place of this one, if this one is full: as many bytes of texts may have trees as may be
+    /// kept, but none if all trees may take more memory. None if there is no memory for another one.
+    pub(crate) fn next_arena(&self, alloc: Global, limits: Limits) -> Option<Arena> {
+        let large = are_trees_large(&self.files, limits);
+        let keep = if large { 0 } else { limits.keep };
         if !self.arena.is_full(&self.files, &self.kept.parses, keep) {
             return None;
         }
@@ -228,20 +233,21 @@ impl<'t> Standing<'t> {
         Some(last.report.as_slice())
     }
 
-    /// Notes whether memory counts more than time. If it does, the last report goes.
-    fn set_frugal(&mut self, frugal: bool)
+    /// Notes the ballast of each loader. If memory counts more than time, the last report goes.
+    fn set_ballast(&mut self, ballast: Option<Size>)
         requires { IsStanding self.old }
         ensures files { self.new.files ≡ self.old.files }
         ensures standing { IsStanding self.new }
     {
-        self.kept.frugal = frugal;
-        if frugal {
+        self.kept.ballast = ballast;
+        if ballast.is_some() {
             self.kept.last = None;
         }
     }
 
     /// The kept values that stay if these files take the place of the files before, under these terms. The outcomes and
-    /// the readings are taken out of `self`. `frugal` if memory counts more than time. The error: an allocation failed.
+    /// the readings are taken out of `self`. There is a ballast if memory counts more than time. The error: an
+    /// allocation failed.
     pub(crate) fn staying<H: Threads + Wait + Sync>(
         &mut self,
         rt: &H,
@@ -249,7 +255,7 @@ impl<'t> Standing<'t> {
         files: &Files,
         terms: Terms,
         threads: usize,
-        frugal: bool,
+        ballast: Option<Size>,
     ) -> Result<Staying<'t>, AllocError>
         requires standing { IsStanding self.old }
         requires threads { 1 ≤ threads }
@@ -274,7 +280,7 @@ impl<'t> Standing<'t> {
         let (outcomes, former) = before.after(rt, alloc, &compared, terms, threads)?;
         let before = mem::replace(&mut self.readings, Readings::new(alloc, terms.prelude));
         let readings = before.after(alloc, &compared, terms.prelude);
-        self.set_frugal(frugal);
+        self.set_ballast(ballast);
         Ok(Staying {
             parses,
             outcomes,
@@ -283,7 +289,7 @@ impl<'t> Standing<'t> {
             readings,
             arena: self.arena,
             seed: self.kept.seed,
-            frugal,
+            ballast,
         })
     }
 
@@ -302,9 +308,10 @@ impl<'t> Standing<'t> {
     {
         let mut before = self;
         let terms = before.kept.outcomes.terms;
-        let frugal = before.kept.frugal;
-        let staying = before.staying(rt, alloc, &files, terms, threads, frugal)?;
+        let ballast = before.kept.ballast;
+        let staying = before.staying(rt, alloc, &files, terms, threads, ballast)?;
         free_ends(rt, alloc, staying.former, threads);
+        let ballasts = mem::replace(&mut before.kept.ballasts, Vec::new(alloc));
         Ok(Standing {
             files,
             kept: KeptValues {
@@ -312,7 +319,8 @@ impl<'t> Standing<'t> {
                 outcomes: staying.outcomes,
                 last: None,
                 spent: before.kept.spent,
-                frugal: before.kept.frugal,
+                ballast: before.kept.ballast,
+                ballasts,
                 requests: before.kept.requests,
                 seed: before.kept.seed,
             },
@@ -321,15 +329,14 @@ impl<'t> Standing<'t> {
         })
     }
 
-    /// Records which files a request reached. If the trees of others may take more memory than `keep` allows, those go that
-    /// no request has reached for the longest time. If memory counts more than time, all trees and outcomes go.
+    /// Records which files a request reached. If the trees of others may take more memory than may be kept, those go
+    /// that no request has reached for the longest time. If memory counts more than time, all trees and outcomes go.
     pub(crate) fn trim<H: Threads>(
         &mut self,
         rt: &H,
         alloc: Global,
         reached: &[usize],
-        threads: usize,
-        keep: usize,
+        limits: Limits,
     )
         requires { IsStanding self.old }
         ensures files { self.new.files ≡ self.old.files }
@@ -337,13 +344,27 @@ impl<'t> Standing<'t> {
     {
         self.kept.requests = self.kept.requests.saturating_add(1);
         self.kept.parses.touch_each(reached, self.kept.requests);
-        let frugal = is_frugal(&self.files, self.kept.spent, threads, keep);
-        let keep = if frugal { 0 } else { keep };
+        let frugal = ballast_for(&self.files, self.kept.spent, limits).is_some();
+        let keep = if frugal { 0 } else { limits.keep };
         let texts = texts_kept(&self.files, reached, keep);
         self.kept.parses.trim(alloc, &self.files, texts);
         if frugal {
             let none = Outcomes::new(alloc, self.kept.outcomes.terms);
             mem::replace(&mut self.kept.outcomes, none).free_apart(rt);
         }
+    }
+
+    /// Frees the ballasts of a run, but for what stays until those of the next one are freed. All that its loaders have
+    /// made must be freed before, or kept.
+    pub(crate) fn lighten(&mut self, alloc: Global, ballasts: Vec<Ballast>)
+        requires { IsStanding self.old }
+        ensures files { self.new.files ≡ self.old.files }
+        ensures standing { IsStanding self.new }
+    {
+        let mut ballasts = ballasts;
+        for n in 0..ballasts.len() {
+            ballasts[n].lighten(alloc);
+        }
+        self.kept.ballasts = ballasts;
     }
 }

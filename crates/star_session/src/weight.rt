@@ -3,6 +3,7 @@
 use crate::values::value_bytes;
 use star_label::files::Files;
 use star_outcome::good_end::GoodEnd;
+use star_outcome::memory::Size;
 use std::alloc::Global;
 
 /// The most bytes of memory that a tree and what is read of it take for each byte of the text.
@@ -17,7 +18,7 @@ const REPLACED_COST: usize = 14;
 /// The most bytes of memory, for each byte of the texts, that lie unused between trees of replaced texts and new ones.
 const BETWEEN_COST: usize = 8;
 
-/// The most bytes of memory that lie unused between them in the part of a thread.
+/// The most bytes of memory that lie unused between them in the part of a loader.
 const BETWEEN_BYTES: usize = 4_194_304;
 
 /// The most bytes of memory that the values of a file and their texts take for each step of its run.
@@ -26,15 +27,42 @@ const STEP_COST: usize = 40;
 /// The bytes of memory that a file takes, whatever its size.
 const FILE_BYTES: usize = 5_120;
 
-/// The bytes of memory that a thread has and does not use.
-const THREAD_BYTES: usize = 1_048_576;
+/// The bytes of memory that a loader has and does not use.
+const LOADER_BYTES: usize = 1_048_576;
+
+/// The limits of a request.
+#[derive(Clone, Copy)]
+pub(crate) struct Limits {
+    /// How many loaders run, from 1 to 64.
+    pub loaders: usize,
+    /// How much memory a session may take beyond that of its largest request, in bytes.
+    pub keep: usize,
+}
+
+impl Limits {
+    /// How many of the bytes of memory that may be kept are left besides what the loaders do not use. None if that alone
+    /// takes more.
+    fn room(self) -> Option<usize> {
+        self.keep
+            .checked_sub(self.loaders.saturating_mul(LOADER_BYTES))
+    }
+
+    /// Whether memory counts more than time in the first request, when nothing is known of the files.
+    pub(crate) fn are_small(self) -> bool {
+        match self.room() {
+            Some(room) => Spent::UNKNOWN.bytes > room,
+            None => true,
+        }
+    }
+}
 
 /// What a request took.
 #[derive(Clone, Copy)]
 pub(crate) struct Spent {
     /// The steps of the files that ended well.
     pub steps: usize,
-    /// The bytes of memory that their values take, or at most take.
+    /// The bytes of memory that the values of the reached files take, or at most take. If there was no room for values, it
+    /// is not known: then it is as much as may be kept. If a file failed, it is not known either: then it is a guess.
     pub bytes: usize,
     /// Whether all reached files ended well.
     pub all_well: bool,
@@ -58,31 +86,32 @@ fn text_bytes(files: &Files) -> usize {
     bytes
 }
 
-/// Whether the trees of all texts, if these are replaced, may take more than `keep` bytes of memory, with what this many
-/// threads do not use.
-pub(crate) fn are_trees_large(files: &Files, threads: usize, keep: usize) -> bool {
+/// Whether the trees of all texts, if these are replaced, may take more memory than may be kept, with what the loaders
+/// do not use.
+pub(crate) fn are_trees_large(files: &Files, limits: Limits) -> bool {
     let bytes = text_bytes(files);
     let trees = bytes.saturating_mul(REPLACED_COST);
-    let most = threads.saturating_mul(BETWEEN_BYTES);
+    let most = limits.loaders.saturating_mul(BETWEEN_BYTES);
     let between = bytes.saturating_mul(BETWEEN_COST).min(most);
-    let unused = threads.saturating_mul(THREAD_BYTES);
-    trees.saturating_add(between).saturating_add(unused) > keep
+    let unused = limits.loaders.saturating_mul(LOADER_BYTES);
+    trees.saturating_add(between).saturating_add(unused) > limits.keep
 }
 
-/// How many of `keep` bytes of memory are left for values, besides the trees of all files and what this many threads do
-/// not use. None if these alone take more.
-fn room_for_values(files: &Files, threads: usize, keep: usize) -> Option<usize> {
+/// How many of the bytes of memory that may be kept are left for values, besides the trees of all files and what the
+/// loaders do not use. None if these alone take more.
+fn room_for_values(files: &Files, limits: Limits) -> Option<usize> {
     let trees = text_bytes(files).saturating_mul(LOW_COST);
     let trees = trees.saturating_add(files.len().saturating_mul(FILE_BYTES));
-    keep.checked_sub(trees.saturating_add(threads.saturating_mul(THREAD_BYTES)))
+    limits.room()?.checked_sub(trees)
 }
 
-/// Whether memory counts more than time: if the runs of the files took this, all that they need takes more than `keep`
-/// bytes of memory, with what this many threads do not use. Then nothing is kept.
-pub(crate) fn is_frugal(files: &Files, spent: Spent, threads: usize, keep: usize) -> bool {
-    match room_for_values(files, threads, keep) {
-        Some(room) => spent.bytes > room,
-        None => true,
+/// The ballast of each loader, if memory counts more than time: if the runs of the files took this, all that they need
+/// takes more memory than may be kept, with what the loaders do not use. Then nothing is kept. None if time counts more.
+pub(crate) fn ballast_for(files: &Files, spent: Spent, limits: Limits) -> Option<Size> {
+    match room_for_values(files, limits) {
+        Some(room) if spent.bytes <= room => None,
+        _ if limits.are_small() => Some(Size::Heap),
+        _ => Some(Size::Block),
     }
 }
 
@@ -154,16 +183,17 @@ pub(crate) fn spent_on(
     files: &Files,
     ends: &[Option<GoodEnd>],
     reached: &[usize],
-    threads: usize,
-    keep: usize,
+    limits: Limits,
 ) -> Spent {
-    let bytes = match room_for_values(files, threads, keep) {
+    let all_well = have_ends(ends, reached);
+    let known = match room_for_values(files, limits) {
         Some(room) => bytes_within(alloc, ends, reached, room),
-        None => keep,
+        None => limits.keep,
     };
+    let guess = Spent::UNKNOWN.bytes;
     Spent {
         steps: steps_at(ends, reached),
-        bytes,
-        all_well: have_ends(ends, reached),
+        bytes: if all_well { known } else { known.max(guess) },
+        all_well,
     }
 }

@@ -15,12 +15,14 @@ returns-in-Some-clause-reports g c = λ d id. record {
 }
 
 pub returns-clause-reports : goal.returns-clause-reports
-returns-clause-reports g c = λ d id. record {
-  after_is = c.trim.ensures.files ∙ c.in-Ok.ensures.after;
-  id_text = c.args.id.now;
-  id_is = id;
-  report = c.in-Ok.after.last.report.items;
-  reports = subst (λ f. IsReportOf f (asked_by c.args.request) c.in-Ok.after.last.report.items) (sym c.trim.ensures.files)
-      (of_last c.args.request c.in-Ok.after.last.question c.in-Ok.after.files c.in-Ok.after.last.report.items c.in-Ok.ensures.question c.in-Ok.ensures.report);
-  answer_is = c.in_ok-line.ensures ∙ ap (answer_line c.args.id.now (codes "report")) c.as_slice.ensures.value;
-}
+returns-clause-reports g c =
+    let files_are = c.lighten.ensures.files ∙ c.trim.ensures.files in
+    λ d id. record {
+      after_is = files_are ∙ c.in-Ok.ensures.after;
+      id_text = c.args.id.now;
+      id_is = id;
+      report = c.in-Ok.after.last.report.items;
+      reports = subst (λ f. IsReportOf f (asked_by c.args.request) c.in-Ok.after.last.report.items) (sym files_are)
+          (of_last c.args.request c.in-Ok.after.last.question c.in-Ok.after.files c.in-Ok.after.last.report.items c.in-Ok.ensures.question c.in-Ok.ensures.report);
+      answer_is = c.in_ok-line.ensures ∙ ap (answer_line c.args.id.now (codes "report")) c.as_slice.ensures.value;
+    }

@@ -1,12 +1,6 @@
-use Rattle.std.proofs.Common.{rules, subst, sym}
-use Rattle.star_memo.specs.Lasting.{AreEndsNow}
+use Rattle.std.proofs.Common.{rules}
 use Rattle.star_session.proofs.Bodies.{body_of}
 use Rattle.star_session.proofs.answer.report_of.Goals as goal
-
-pub run_over-requires-clause-ends : goal.run_over-requires-clause-ends
-run_over-requires-clause-ends g c =
-    let asked = c.args.asked.now in
-    λ lives within. subst (AreEndsNow asked.files asked.prelude c.args.steps) (sym c.as_slice-ends.ensures.value) c.requires.ends
 
 pub returns-clause-report : goal.returns-clause-report
 returns-clause-report g c =

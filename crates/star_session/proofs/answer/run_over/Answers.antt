@@ -1,5 +1,6 @@
-use Rattle.std.proofs.Common.{subst, sym, ◌∙◌}
+use Rattle.std.proofs.Common.{subst, sym}
 use Rattle.star_reading.proofs.Known.{known_again}
+use Rattle.star_memo.specs.Lasting.{AreEndsNow}
 use Rattle.star_memo.specs.Readings.{AreKnown}
 use Rattle.star_memo.proofs.Staying.{ends_of_now}
 use Rattle.star_session.proofs.Bodies.{left_in}
@@ -8,12 +9,14 @@ use Rattle.star_session.proofs.answer.run_over.Goals as goal
 pub written_over-requires-clause-reads : goal.written_over-requires-clause-reads
 written_over-requires-clause-reads g c =
     let asked = c.args.asked.now in
-    λ lives within. subst (λ p. AreKnown asked.files p c.args.readings.now.reads.all.items) c.requires.seen c.requires.readings.reads
+    λ lives within. subst (λ p. AreKnown asked.files p c.args.staying.now.readings.reads.all.items) c.requires.seen c.requires.readings.reads
 
 pub written_over-requires-clause-ends : goal.written_over-requires-clause-ends
 written_over-requires-clause-ends g c =
     let asked = c.args.asked.now in
-    λ lives within. ends_of_now asked.files asked.roots.items asked.prelude c.args.options.now.steps c.args.ends.now c.requires.ends
+    let steps = c.args.options.now.steps in
+    let ends = subst (AreEndsNow asked.files asked.prelude steps) (sym c.as_slice-ends.ensures.value) c.requires.ends in
+    λ lives within. ends_of_now asked.files asked.roots.items asked.prelude steps c.as_slice-ends.result.now ends
 
 pub returns-clause-ends : goal.returns-clause-ends
 returns-clause-ends g c =
