@@ -10,3 +10,4 @@ pub mod Answered
 pub mod Named
 pub mod Seen
 pub mod Parts
+pub mod Moving

@@ -30,13 +30,14 @@ use star_memo::outcomes::{Outcomes, Terms, free_ends};
 use star_memo::parses::Parses;
 use star_memo::readings::Readings;
 use star_outcome::good_end::GoodEnd;
-use star_outcome::memory::{Ballast, Size, threads_for};
+use star_outcome::memory::{Ballast, Size};
+use star_reading::reading::Read;
 use star_report::wanted::{Output, Wanted};
 use star_serve::serve::{Finished, Job, Options, written_over};
 use std::alloc::{AllocError, Global};
-use std::mem;
 use std::sync::Wait;
 use std::thread::Threads;
+use std::{mem, thread};
 
 /// A report without its line end, the good ends of the files that were reached, and the numbers of these files.
 #[derive(Drop)]
@@ -101,6 +102,72 @@ fn first_files(alloc: Global, asked: &AskedFor) -> Result<Vec<usize>, AllocError
     Ok(first)
 }
 
+/// Parses the texts that are reached, unless they have trees, by at most `threads` threads, and keeps the trees. The
+/// error: an allocation failed.
+fn parse_asked<H: Threads + Wait + Sync>(
+    rt: &H,
+    alloc: Global,
+    asked: &AskedFor,
+    parses: &mut Parses,
+    reads: &[Option<Read<'_>>],
+    threads: usize,
+) -> Result<(), AllocError>
+    requires { AreKept asked.now.files parses.old.all.items }
+    ensures { IfOk result (λ _. AreKept asked.now.files parses.new.all.items) }
+{
+    let first = first_files(alloc, asked)?;
+    parses.parse_reached(rt, alloc, &asked.files, reads, first, threads)
+}
+
+/// The words of the block that stays of a ballast that fills a heap.
+const PAD_WORDS: usize = 1 << 11;
+
+/// A block that leaves a hole for that of a later ballast in the same part of the memory, before the ballast of this thread.
+/// Otherwise it would lie after what this thread has made, and hold that heap. None if there is no memory for it.
+fn hole_for(alloc: Global, size: Size) -> Option<Vec<u64>> {
+    match size {
+        Size::Block => None,
+        Size::Heap => Vec::with_capacity(alloc, PAD_WORDS).ok(),
+    }
+}
+
+/// Parses the texts that are reached, unless they have trees, and keeps the trees. If memory counts more than time, one
+/// thread of its own does so, and ends: the thread of the session stays, and of what it takes and frees, the C library
+/// keeps much between all that is kept. The error: an allocation failed.
+fn parse_first<H: Threads + Wait + Sync>(
+    rt: &H,
+    alloc: Global,
+    asked: &AskedFor,
+    staying: &mut Staying<'_>,
+    loaders: usize,
+) -> Result<(), AllocError>
+    requires { AreKept asked.now.files staying.old.parses.all.items }
+    ensures parses { IfOk result (λ _. AreKept asked.now.files staying.new.parses.all.items) }
+    ensures readings { staying.new.readings ≡ staying.old.readings }
+    ensures outcomes { staying.new.outcomes ≡ staying.old.outcomes }
+    ensures former { staying.new.former ≡ staying.old.former }
+    ensures same { staying.new.same ≡ staying.old.same }
+{
+    let reads = staying.readings.reads.all.as_slice();
+    let parses = &mut staying.parses;
+    let Some(size) = staying.ballast else {
+        return parse_asked(rt, alloc, asked, parses, reads, loaders);
+    };
+    let mut apart = || -> (Result<(), AllocError>, Option<Ballast>)
+        requires { AreKept asked.now.files parses.now.all.items }
+        ensures { IfOk result.0 (λ _. AreKept asked.entry.now.files parses.exit.now.all.items) }
+    {
+        let hole = hole_for(alloc, size);
+        let ballast = Ballast::new(alloc, size).ok();
+        let parsed = parse_asked(rt, alloc, asked, parses, reads, 1);
+        drop(hole);
+        (parsed, ballast)
+    };
+    let ((parsed, ballast), ()) = thread::join_mut(rt, &mut apart, &mut || ());
+    staying.parser = ballast;
+    parsed
+}
+
 /// The report that is asked for, made with the kept values that stay. The texts that are reached are parsed first,
 /// unless they have trees, and their trees are kept. A file whose reading stays is not read again.
 fn report_of<H: Threads + Wait + Sync>(
@@ -142,12 +209,7 @@ fn report_of<H: Threads + Wait + Sync>(
         progress: None,
         seed: staying.seed,
     };
-    let first = first_files(alloc, asked)?;
-    let readers = threads_for(loaders, staying.ballast.is_some());
-    let reads = staying.readings.reads.all.as_slice();
-    staying
-        .parses
-        .parse_reached(rt, alloc, &asked.files, reads, first, readers)?;
+    parse_first(rt, alloc, asked, staying, loaders)?;
     let arena = staying.arena;
     staying
         .readings
@@ -267,7 +329,7 @@ fn keep_lasting<H: Threads + Wait + Sync>(
 }
 
 /// The files after a request, the values that are kept for them, the report that was asked for, the files that it
-/// reached, and the ballasts of the loaders that ran them.
+/// reached, and the ballasts of the threads that ran and parsed them.
 #[derive(Drop)]
 struct After<'t> {
     files: Files,
@@ -277,6 +339,7 @@ struct After<'t> {
     last: Last,
     reached: Vec<usize>,
     ballasts: Vec<Ballast>,
+    parser: Option<Ballast>,
 }
 
 /// The threads that are at work on a request.
@@ -368,6 +431,7 @@ fn report_after<'t, H: Threads + Wait + Sync>(
         last: Last { question, report },
         reached,
         ballasts,
+        parser: staying.parser,
     })
 }
 
@@ -409,6 +473,7 @@ pub(crate) fn answered<H: Threads + Wait + Sync>(
         last,
         reached,
         ballasts,
+        parser,
     } = after;
     standing.files = files;
     standing.kept.spent = spent_on(alloc, &standing.files, &outcomes.all, &reached, limits);
@@ -416,8 +481,8 @@ pub(crate) fn answered<H: Threads + Wait + Sync>(
     standing.kept.outcomes = outcomes;
     standing.kept.last = Some(last);
     standing.readings = readings;
+    standing.kept.ballasts = ballasts;
+    standing.kept.parser = parser;
     standing.trim(rt, alloc, &reached, limits);
-    // What the loaders have made is freed, so their ballasts go.
-    standing.lighten(alloc, ballasts);
     Ok(line)
 }

@@ -3,7 +3,7 @@
 //! If each change gives a text to a file that is there, the files after share all other texts with those before.
 //! Otherwise they are made anew.
 
-ghost use Rattle.std.specs.Prelude.{◌≡◌, true, IfOk, IsSome, OnOk, map, option_map, string_bytes};
+ghost use Rattle.std.specs.Prelude.{◌≡◌, true, IfOk, IfSome, IsSome, OnOk, map, option_map, string_bytes};
 ghost use Rattle.star_bundle.specs.Bundle.{within_limits};
 ghost use Rattle.star_bundle.specs.Refusal.{Gives};
 ghost use Rattle.star_label.specs.Files.{file_of, limit_passed};
@@ -40,6 +40,14 @@ fn texts_of(alloc: Global, files: &Files) -> Result<BTreeMap<Label, String>, All
         texts.insert(copied(alloc, files.label(n))?, text)?;
     }
     Ok(texts)
+}
+
+/// The same files, with labels and texts of their own. None if an allocation failed.
+pub(crate) fn copy_of(alloc: Global, files: &Files) -> Option<Files>
+    ensures { IfSome result (λ copy. copy ≡ files.now) }
+{
+    let texts = texts_of(alloc, files).ok()?;
+    Files::new(alloc, texts).ok()
 }
 
 /// Puts the text of a change in its place, or takes the file away.

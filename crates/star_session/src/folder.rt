@@ -4,6 +4,7 @@
 ghost use Rattle.std.specs.Prelude.{◌≡◌, ◌≤◌, [], IfErr, IfOk, None, OnErr, OnOk, map, option_map, string_bytes};
 ghost use Rattle.serde_json.specs.Data.{Data};
 ghost use Rattle.star_label.specs.View.{text_of};
+ghost use Rattle.star_memo.specs.Parses.{AreKept};
 ghost use Rattle.star_reading.specs.Parsed.{AreParsesOf};
 ghost use Rattle.star_bundle.specs.declared.error.ServeError.TheVariants.{Memory};
 ghost use Rattle.star_repo.specs.Parsed.{AreKnown};
@@ -16,15 +17,18 @@ ghost use Rattle.star_session.specs.Kept.{IsStanding};
 ghost use Rattle.star_session.specs.Requests.{IsIdText, asked_by, question_of};
 
 use crate::answer::answered;
+use crate::changes::copy_of;
 use crate::question::Question;
 use crate::refusal::refusal;
 use crate::request::Request;
 use crate::standing::{KeptValues, Standing};
-use crate::weight::Limits;
+use crate::weight::{Limits, ballast_for};
 use star_bundle::error::ServeError;
 use star_folder::folder::FolderError;
 use star_label::files::Files;
 use star_label::label::Label;
+use star_memo::parses::Parses;
+use star_outcome::memory::{Ballast, Size};
 use star_reading::parses::Parsed;
 use star_reading::reading::Trees;
 use star_repo::asked::read_asked;
@@ -35,9 +39,9 @@ use star_repo::parse::Parsing;
 use star_repo::repo::Repo;
 use std::alloc::{AllocError, Global};
 use std::collections::BTreeMap;
-use std::mem;
 use std::sync::Wait;
 use std::thread::Threads;
+use std::{mem, thread};
 
 /// A folder, and its files that are known.
 #[derive(Drop)]
@@ -118,34 +122,32 @@ fn known_parses<'a, 't>(files: &'a Files, parses: &'a [Option<Parsed<'t>>]) -> O
     Some(Known { files, parses })
 }
 
-/// The files that a request reaches, looked at. A text that is kept is not parsed again.
-fn files_looked_at<H: Threads + Wait + Sync, F: Repo + Copy>(
+/// The files that a request reaches, looked at by at most `threads` threads, after these files. A text whose parse is
+/// kept is not parsed again.
+fn files_looked_at<'a, H: Threads + Wait + Sync, F: Repo + Copy>(
     rt: &H,
     alloc: Global,
     folder: &F,
-    before: &Standing<'_>,
-    request: &Request,
-    loaders: usize,
+    before: &'a Files,
+    kept: &'a Parses,
+    request: &'a Request,
+    threads: usize,
 ) -> Result<Files, RepoError>
-    requires { IsStanding before.now }
-    ensures looked { IfOk result (AreLookedAt (F.says folder.now) before.now.files (asked_by request.now)) }
-    ensures refused { IfErr result (IsUnseen (F.says folder.now) before.now.files (asked_by request.now)) }
+    requires { AreKept before.now kept.now.all.items }
+    ensures looked { IfOk result (AreLookedAt (F.says folder.now) before.now (asked_by request.now)) }
+    ensures refused { IfErr result (IsUnseen (F.says folder.now) before.now (asked_by request.now)) }
 {
     let trees = Trees::new(alloc).map_err(no_memory)?;
-    let parses = before
-        .kept
-        .parses
-        .views(alloc, &before.files)
-        .map_err(no_memory)?;
+    let parses = kept.views(alloc, before).map_err(no_memory)?;
     let mut looked = KnownRepo {
         folder: *folder,
-        files: &before.files,
+        files: before,
         changes: request.changes.as_slice(),
     };
     let parsing = Parsing {
         trees: &trees.all,
-        known: known_parses(&before.files, parses.as_slice()),
-        threads: loaders,
+        known: known_parses(before, parses.as_slice()),
+        threads,
     };
     let reached = read_asked(
         rt,
@@ -158,19 +160,77 @@ fn files_looked_at<H: Threads + Wait + Sync, F: Repo + Copy>(
     Ok(reached.files)
 }
 
+/// As `files_looked_at`, by a thread of its own, which ends. The answer also has that thread's ballast, of this size.
+fn looked_apart<H: Threads + Wait + Sync, F: Repo + Copy + Sync>(
+    rt: &H,
+    alloc: Global,
+    folder: &F,
+    before: &Files,
+    kept: &Parses,
+    request: &Request,
+    size: Size,
+) -> (Result<Files, RepoError>, Option<Ballast>)
+    requires { AreKept before.now kept.now.all.items }
+    ensures looked { IfOk result.0 (AreLookedAt (F.says folder.now) before.now (asked_by request.now)) }
+    ensures refused { IfErr result.0 (IsUnseen (F.says folder.now) before.now (asked_by request.now)) }
+{
+    let mut apart = || -> (Result<Files, RepoError>, Option<Ballast>)
+        requires { AreKept before.now kept.now.all.items }
+        ensures looked { IfOk result.0
+            (AreLookedAt (F.says folder.entry.now) before.entry.now (asked_by request.entry.now)) }
+        ensures refused { IfErr result.0
+            (IsUnseen (F.says folder.entry.now) before.entry.now (asked_by request.entry.now)) }
+    {
+        let ballast = Ballast::new(alloc, size).ok();
+        let files = files_looked_at(rt, alloc, folder, before, kept, request, 1);
+        (files, ballast)
+    };
+    let (looked, ()) = thread::join_mut(rt, &mut apart, &mut || ());
+    looked
+}
+
+/// As `files_looked_at`. If memory counts more than time, one thread of its own looks, and all that it has made is
+/// freed: the answer is a copy of its files.
+fn looked_at<H: Threads + Wait + Sync, F: Repo + Copy + Sync>(
+    rt: &H,
+    alloc: Global,
+    folder: &F,
+    before: &Standing<'_>,
+    request: &Request,
+    limits: Limits,
+) -> Result<Files, RepoError>
+    requires { IsStanding before.now }
+    ensures looked { IfOk result (AreLookedAt (F.says folder.now) before.now.files (asked_by request.now)) }
+    ensures refused { IfErr result (IsUnseen (F.says folder.now) before.now.files (asked_by request.now)) }
+{
+    let (files, kept) = (&before.files, &before.kept.parses);
+    let Some(size) = ballast_for(files, before.kept.spent, limits) else {
+        return files_looked_at(rt, alloc, folder, files, kept, request, limits.loaders);
+    };
+    let (looked, ballast) = looked_apart(rt, alloc, folder, files, kept, request, size);
+    let files = looked?;
+    let Some(copy) = copy_of(alloc, &files) else {
+        return Ok(files);
+    };
+    thread::join(rt, move || drop(files), || ());
+    // All that the thread has made is freed, so its ballast goes.
+    drop(ballast);
+    Ok(copy)
+}
+
 /// Looks at the files that a request reaches. Files that were known before and are not among these are not known any
 /// more. If a file is refused, or a root or the prelude is not a label, none are known.
-fn look<H: Threads + Wait + Sync, F: Repo + Copy>(
+fn look<H: Threads + Wait + Sync, F: Repo + Copy + Sync>(
     rt: &H,
     alloc: Global,
     folder: &F,
     standing: &mut Standing<'_>,
     request: &Request,
-    loaders: usize,
+    limits: Limits,
     empty: Files,
 ) -> Result<(), RepoError>
     requires standing { IsStanding standing.old }
-    requires loaders { 1 ≤ loaders }
+    requires loaders { 1 ≤ limits.loaders }
     requires empty { empty ≡ [] }
     ensures standing { IsStanding standing.new }
     ensures looked { OnOk result (AreLookedAt (F.says folder.now) standing.old.files (asked_by request.now)
@@ -181,11 +241,11 @@ fn look<H: Threads + Wait + Sync, F: Repo + Copy>(
     let kept = KeptValues::new(alloc, standing.kept.seed);
     let empty = Standing::new(alloc, empty, kept, standing.arena);
     let before = mem::replace(standing, empty);
-    let files = match files_looked_at(rt, alloc, folder, &before, request, loaders) {
+    let files = match looked_at(rt, alloc, folder, &before, request, limits) {
         Ok(files) => files,
         Err(error) => return Err(error),
     };
-    match before.with_files(rt, alloc, files, loaders) {
+    match before.with_files(rt, alloc, files, limits.loaders) {
         Ok(after) => {
             *standing = after;
             Ok(())
@@ -246,7 +306,7 @@ fn seen<H: Threads + Wait + Sync>(
 
 /// The answer to a request about the files of a folder. Files that the request before looked at are not read again,
 /// unless this request says that they have changed. The error: memory ran out.
-pub(crate) fn answered_from<H: Threads + Wait + Sync, F: Repo + Copy>(
+pub(crate) fn answered_from<H: Threads + Wait + Sync, F: Repo + Copy + Sync>(
     rt: &H,
     alloc: Global,
     folder: &F,
@@ -267,7 +327,7 @@ pub(crate) fn answered_from<H: Threads + Wait + Sync, F: Repo + Copy>(
     let Ok(empty) = Files::new(alloc, BTreeMap::new(alloc)) else {
         return Err(AllocError);
     };
-    match look(rt, alloc, folder, standing, &request, limits.loaders, empty) {
+    match look(rt, alloc, folder, standing, &request, limits, empty) {
         Ok(()) => seen(rt, alloc, standing, id, request.question, limits),
         Err(error) => unseen(alloc, id, &error),
     }

@@ -55,6 +55,7 @@ impl Settings {
         Limits {
             loaders: self.loaders,
             keep: self.keep,
+            folder: self.defaults.origin == Origin::Folder,
         }
     }
 }
@@ -96,7 +97,7 @@ fn answer_sent<H: Threads + Wait + Sync>(
 }
 
 /// The answer to a request, by where the files come from.
-fn answer_request<H: Threads + Wait + Sync, F: Repo + Copy>(
+fn answer_request<H: Threads + Wait + Sync, F: Repo + Copy + Sync>(
     rt: &H,
     alloc: Global,
     folder: &F,
@@ -123,7 +124,7 @@ fn answer_request<H: Threads + Wait + Sync, F: Repo + Copy>(
 }
 
 /// The answer to the value that a line is.
-fn answer_value<H: Threads + Wait + Sync, F: Repo + Copy>(
+fn answer_value<H: Threads + Wait + Sync, F: Repo + Copy + Sync>(
     rt: &H,
     alloc: Global,
     folder: &F,
@@ -173,7 +174,7 @@ fn misread_line(alloc: Global, error: &RequestError) -> Result<Vec<u8>, AllocErr
 }
 
 /// The answer to a line with these bytes.
-fn answer<H: Threads + Wait + Sync, F: Repo + Copy>(
+fn answer<H: Threads + Wait + Sync, F: Repo + Copy + Sync>(
     rt: &H,
     alloc: Global,
     folder: &F,
@@ -248,7 +249,7 @@ impl Session<'_> {
 }
 
 /// Writes the answer to the next line. It answers whether more lines may come.
-fn next_answer<H: Threads + Wait + Sync, F: Repo + Copy, R: Source, W: Sink>(
+fn next_answer<H: Threads + Wait + Sync, F: Repo + Copy + Sync, R: Source, W: Sink>(
     rt: &H,
     alloc: Global,
     folder: &F,
@@ -290,7 +291,7 @@ fn next_answer<H: Threads + Wait + Sync, F: Repo + Copy, R: Source, W: Sink>(
 
 /// Writes the answers to the lines of a generation of readings, until the arena is to be freed. It answers the arena of
 /// the next generation, or none after the last line. If there is no memory for another arena, the generation goes on.
-fn answer_lines<H: Threads + Wait + Sync, F: Repo + Copy, R: Source, W: Sink>(
+fn answer_lines<H: Threads + Wait + Sync, F: Repo + Copy + Sync, R: Source, W: Sink>(
     rt: &H,
     alloc: Global,
     folder: &F,
@@ -318,13 +319,14 @@ fn answer_lines<H: Threads + Wait + Sync, F: Repo + Copy, R: Source, W: Sink>(
         if let Some(arena) = session.standing.next_arena(alloc, settings.limits()) {
             return Ok(Some(arena));
         }
+        session.standing.lighten(alloc);
     }
     unreachable!()
 }
 
 /// Answers the lines of a generation of readings, and frees these and their arena. It answers the state as the next
 /// generation begins, or none after the last line.
-fn answer_generation<H: Threads + Wait + Sync, F: Repo + Copy, R: Source, W: Sink>(
+fn answer_generation<H: Threads + Wait + Sync, F: Repo + Copy + Sync, R: Source, W: Sink>(
     rt: &H,
     alloc: Global,
     folder: &F,
@@ -354,8 +356,10 @@ fn answer_generation<H: Threads + Wait + Sync, F: Repo + Copy, R: Source, W: Sin
     let mut session = Session { standing, lines };
     match answer_lines(rt, alloc, folder, &mut session, settings, reader, writer)? {
         Some(next) => {
-            let next = session.begin(rt, next);
+            let mut next = session.begin(rt, next);
             arena.free_apart(rt);
+            // The trees are freed, and before them all else that the threads have made.
+            next.kept.lighten(alloc);
             Ok(Some(next))
         }
         None => Ok(None),
@@ -368,7 +372,7 @@ fn answer_generation<H: Threads + Wait + Sync, F: Repo + Copy, R: Source, W: Sin
 ///
 /// `Read` if a read failed, `Write` if a write failed, `Memory` if memory runs out before the first line. A request
 /// that is refused changes nothing.
-pub fn serve_requests<H: Threads + Wait + Sync, F: Repo + Copy, R: Source, W: Sink>(
+pub fn serve_requests<H: Threads + Wait + Sync, F: Repo + Copy + Sync, R: Source, W: Sink>(
     rt: &H,
     alloc: Global,
     folder: &F,

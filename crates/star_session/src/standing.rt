@@ -49,8 +49,10 @@ pub(crate) struct KeptValues {
     pub spent: Spent,
     /// The ballast of each loader, if memory counts more than time.
     pub ballast: Option<Size>,
-    /// The ballasts of the last run, which were lightened.
+    /// The ballasts of the loaders that ran files for the last request.
     pub ballasts: Vec<Ballast>,
+    /// The ballast of the thread that parsed texts for it.
+    pub parser: Option<Ballast>,
     /// The number of requests that were run.
     pub requests: u64,
     /// The seed for the hashes of keys in each run.
@@ -66,10 +68,20 @@ impl Drop for KeptValues {
             spent: _,
             ballast: _,
             ballasts: _,
+            parser: _,
             requests: _,
             seed: _,
         } = self;
     }
+}
+
+/// These ballasts, without what may be freed of them now.
+fn lightened(alloc: Global, ballasts: Vec<Ballast>) -> Vec<Ballast> {
+    let mut ballasts = ballasts;
+    for n in 0..ballasts.len() {
+        ballasts[n].lighten(alloc);
+    }
+    ballasts
 }
 
 /// The files as the requests so far leave them, and all that is kept for the next request.
@@ -97,6 +109,8 @@ pub(crate) struct Staying<'t> {
     pub seed: u64,
     /// The ballast of each loader, if memory counts more than time.
     pub ballast: Option<Size>,
+    /// The ballast of the thread that has parsed texts.
+    pub parser: Option<Ballast>,
 }
 
 impl KeptValues {
@@ -115,8 +129,21 @@ impl KeptValues {
             spent: Spent::UNKNOWN,
             ballast: None,
             ballasts: Vec::new(alloc),
+            parser: None,
             requests: 0,
             seed,
+        }
+    }
+
+    /// Frees the ballasts of the last request, but for what stays until those of the next one are there. All that their
+    /// threads have made must be freed before, or kept.
+    pub(crate) fn lighten(&mut self, alloc: Global)
+        ensures { (files : List File) → AreKeptFor files self.old → AreKeptFor files self.new }
+    {
+        let ballasts = mem::replace(&mut self.ballasts, Vec::new(alloc));
+        self.ballasts = lightened(alloc, ballasts);
+        if let Some(parser) = &mut self.parser {
+            parser.lighten(alloc);
         }
     }
 }
@@ -290,6 +317,7 @@ impl<'t> Standing<'t> {
             arena: self.arena,
             seed: self.kept.seed,
             ballast,
+            parser: None,
         })
     }
 
@@ -312,6 +340,7 @@ impl<'t> Standing<'t> {
         let staying = before.staying(rt, alloc, &files, terms, threads, ballast)?;
         free_ends(rt, alloc, staying.former, threads);
         let ballasts = mem::replace(&mut before.kept.ballasts, Vec::new(alloc));
+        let parser = before.kept.parser.take();
         Ok(Standing {
             files,
             kept: KeptValues {
@@ -321,6 +350,7 @@ impl<'t> Standing<'t> {
                 spent: before.kept.spent,
                 ballast: before.kept.ballast,
                 ballasts,
+                parser,
                 requests: before.kept.requests,
                 seed: before.kept.seed,
             },
@@ -354,17 +384,16 @@ impl<'t> Standing<'t> {
         }
     }
 
-    /// Frees the ballasts of a run, but for what stays until those of the next one are freed. All that its loaders have
-    /// made must be freed before, or kept.
-    pub(crate) fn lighten(&mut self, alloc: Global, ballasts: Vec<Ballast>)
+    /// As `KeptValues::lighten`.
+    pub(crate) fn lighten(&mut self, alloc: Global)
         requires { IsStanding self.old }
         ensures files { self.new.files ≡ self.old.files }
         ensures standing { IsStanding self.new }
     {
-        let mut ballasts = ballasts;
-        for n in 0..ballasts.len() {
-            ballasts[n].lighten(alloc);
+        let ballasts = mem::replace(&mut self.kept.ballasts, Vec::new(alloc));
+        self.kept.ballasts = lightened(alloc, ballasts);
+        if let Some(parser) = &mut self.kept.parser {
+            parser.lighten(alloc);
         }
-        self.kept.ballasts = ballasts;
     }
 }

@@ -37,6 +37,8 @@ pub(crate) struct Limits {
     pub loaders: usize,
     /// How much memory a session may take beyond that of its largest request, in bytes.
     pub keep: usize,
+    /// Whether the files are those of a folder. Then they are looked at and parsed while all that is kept is still there.
+    pub folder: bool,
 }
 
 impl Limits {
@@ -105,11 +107,19 @@ fn room_for_values(files: &Files, limits: Limits) -> Option<usize> {
     limits.room()?.checked_sub(trees)
 }
 
+/// Whether a look at a folder may take too much memory, so that memory counts more than time: the bound is small, or the
+/// trees of all texts are large.
+fn is_look_large(files: &Files, limits: Limits) -> bool {
+    limits.folder && (limits.are_small() || are_trees_large(files, limits))
+}
+
 /// The ballast of each loader, if memory counts more than time: if the runs of the files took this, all that they need
-/// takes more memory than may be kept, with what the loaders do not use. Then nothing is kept. None if time counts more.
+/// takes more memory than may be kept, with what the loaders do not use, or a look at the folder may take too much. Then
+/// nothing is kept. None if time counts more.
 pub(crate) fn ballast_for(files: &Files, spent: Spent, limits: Limits) -> Option<Size> {
+    let large = is_look_large(files, limits);
     match room_for_values(files, limits) {
-        Some(room) if spent.bytes <= room => None,
+        Some(room) if spent.bytes <= room && !large => None,
         _ if limits.are_small() => Some(Size::Heap),
         _ => Some(Size::Block),
     }

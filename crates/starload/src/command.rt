@@ -11,7 +11,7 @@ use star_serve::serve::{Form, Options, Output, Wanted};
 use std::alloc::{AllocError, Global};
 
 /// The words of `--version` after the program's name: its version, and the kit that proved it.
-const VERSION: &str = "1.6.13 (rattle-kit-13f logic dac8208d650f15bf)";
+const VERSION: &str = "1.6.14 (rattle-kit-13f logic dac8208d650f15bf)";
 
 /// The end of the help, after the options.
 const EXAMPLE: &str =

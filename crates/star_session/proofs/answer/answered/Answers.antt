@@ -16,7 +16,7 @@ returns-in-Some-clause-reports g c = λ d id. record {
 
 pub returns-clause-reports : goal.returns-clause-reports
 returns-clause-reports g c =
-    let files_are = c.lighten.ensures.files ∙ c.trim.ensures.files in
+    let files_are = c.trim.ensures.files in
     λ d id. record {
       after_is = files_are ∙ c.in-Ok.ensures.after;
       id_text = c.args.id.now;

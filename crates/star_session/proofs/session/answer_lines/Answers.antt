@@ -1,7 +1,7 @@
-use Rattle.std.proofs.Common.{arith, refl, subst}
+use Rattle.std.proofs.Common.{arith, refl, subst, sym}
 use Rattle.star_session.specs.Folders.{IsAnsweredIn}
 use Rattle.star_session.specs.Lines.{ahead_of}
-use Rattle.star_session.specs.Session.{IsStep}
+use Rattle.star_session.specs.Session.{IsPart, IsStep}
 use Rattle.star_session.proofs.Parts.{no_part, part_then_part, part_then_rest}
 use Rattle.star_session.proofs.session.answer_lines.Goals as goal
 
@@ -26,8 +26,8 @@ loop-preserved g c =
     let one = subst (λ b. IsStep d (said c.loop.reader) (said new.reader) (ahead_of c.loop.session.lines) (ahead_of new.session.lines) (taken c.loop.writer) (taken new.writer) c.loop.session.standing.files new.session.standing.files b) c.if-not-branch.false c.in_ok-next_answer.ensures.step in (
       tt,
       tt,
-      part_then_part d (said c.args.reader.now) (said c.loop.reader) (said new.reader) (ahead_of c.args.session.now.lines) (ahead_of c.loop.session.lines) (ahead_of new.session.lines) (taken c.args.writer.now) (taken c.loop.writer) (taken new.writer) c.args.session.now.standing.files c.loop.session.standing.files new.session.standing.files c.loop.invariant.2 one,
-      c.next_answer.ensures.standing,
+      subst (IsPart d (said c.args.reader.now) (said new.reader) (ahead_of c.args.session.now.lines) (ahead_of new.session.lines) (taken c.args.writer.now) (taken new.writer) c.args.session.now.standing.files) (sym c.lighten.ensures.files) (part_then_part d (said c.args.reader.now) (said c.loop.reader) (said new.reader) (ahead_of c.args.session.now.lines) (ahead_of c.loop.session.lines) (ahead_of new.session.lines) (taken c.args.writer.now) (taken c.loop.writer) (taken new.writer) c.args.session.now.standing.files c.loop.session.standing.files new.session.standing.files c.loop.invariant.2 one),
+      c.lighten.ensures.standing,
       c.in_ok-next_answer.ensures.cut,
       omega (arith, c.in_ok-next_answer.ensures.reads, c.loop.invariant.5),
       omega (arith, c.in_ok-next_answer.ensures.writes, c.loop.invariant.6),
