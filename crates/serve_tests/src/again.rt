@@ -1,6 +1,7 @@
 //! A second run of the same files, which knows the good ends of the first.
 
 ghost use Rattle.std.specs.Prelude.{◌≡◌, IfOk, None, length};
+ghost use Rattle.star_dialect.specs.declared.Dialect.TheVariants.{Core};
 ghost use Rattle.star_outcome.specs.GoodEnds.{AreGoodEndsOf};
 ghost use Rattle.star_outcome.specs.Kept.{AreModulesOf};
 ghost use Rattle.star_reading.specs.Found.{Within};
@@ -25,9 +26,10 @@ fn run_with<R: Threads + Wait + Sync>(
     gate: &Meeting,
 ) -> Result<Run, Fail>
     requires roots { Within files.now roots.now }
-    requires ends { AreGoodEndsOf files.now roots.now None 100000 ends.items }
+    requires ends { AreGoodEndsOf files.now roots.now None (record { steps = 100000; dialect = Core }) ends.items }
     ensures files { IfOk result (λ r. length r.cells ≡ length files.now) }
-    ensures modules { IfOk result (λ r. AreModulesOf files.now roots.now None 100000 r.kept) }
+    ensures modules { IfOk result (λ r.
+        AreModulesOf files.now roots.now None (record { steps = 100000; dialect = Core }) r.kept) }
 {
     let trees = Trees::new(alloc)?;
     let mut reads = Reads::new(alloc);
@@ -56,7 +58,7 @@ fn run_again<R: Threads + Wait + Sync>(
 ) -> Result<Run, Fail>
     requires roots { Within files.now roots.now }
     requires cells { length first.old.cells ≡ length files.now }
-    requires modules { AreModulesOf files.now roots.now None 100000 first.old.kept }
+    requires modules { AreModulesOf files.now roots.now None (record { steps = 100000; dialect = Core }) first.old.kept }
     ensures same { first.new ≡ first.old }
     ensures files { IfOk result (λ r. length r.cells ≡ length files.now) }
 {

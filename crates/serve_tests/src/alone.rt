@@ -3,6 +3,7 @@
 use star_alone::answer::answer_alone;
 use star_bundle::error::ServeError;
 use star_checks::holds;
+use star_dialect::{Dialect, Mode};
 use star_report::wanted::Wanted;
 use std::alloc::{AllocError, Global};
 use std::test::Fail;
@@ -39,7 +40,10 @@ fn answer_of(
         bytes,
         words.as_slice(),
         Some(&prelude),
-        1_000_000,
+        Mode {
+            steps: 1_000_000,
+            dialect: Dialect::Core,
+        },
         WANTED,
     ) {
         Ok(answered) => Ok((answered.text, Ok(answered.all_ok))),

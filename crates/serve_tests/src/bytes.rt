@@ -9,6 +9,7 @@ mod ondemand;
 
 use star_bundle::error::ServeError;
 use star_checks::{holds, writes};
+use star_dialect::{Dialect, Mode};
 use star_folder::folder::{Folder, FolderError, Kind};
 use star_folder::memory::{MemoryFolder, Row};
 use star_label::label::Label;
@@ -127,13 +128,16 @@ pub(crate) fn writer_of(alloc: Global, fails_at: usize) -> Kept {
 /// The options for a root, with `loaders` loaders and the trace.
 pub(crate) fn options_of(alloc: Global, loaders: usize, root: &str) -> Result<Options, AllocError>
     requires { (1 ≤ loaders) × (loaders ≤ 64) }
-    ensures { IfOk result (λ o. (1 ≤ o.loaders) × (o.loaders ≤ 64) × (1 ≤ o.steps) × (o.steps ≤ 100000000)) }
+    ensures { IfOk result (λ o. (1 ≤ o.loaders) × (o.loaders ≤ 64) × (1 ≤ o.mode.steps) × (o.mode.steps ≤ 100000000)) }
 {
     let mut roots = Vec::new(alloc);
     roots.push(String::from_str(alloc, root)?)?;
     Ok(Options {
         loaders,
-        steps: 10_000,
+        mode: Mode {
+            steps: 10_000,
+            dialect: Dialect::Core,
+        },
         seed: 1,
         roots,
         prelude: None,

@@ -8,6 +8,7 @@ use crate::runs::files_of;
 use star_call::callee::Callee;
 use star_call::passed::{EvaluatedArgument, given};
 use star_checks::holds;
+use star_dialect::Dialect;
 use star_enter::calls::callee_of;
 use star_enter::ordered::bound_of;
 use star_label::files::Files as Labels;
@@ -82,7 +83,7 @@ fn many_parameters_have_a_layout_over(
     files: &Files,
     homes: &Homes,
 ) -> Result<(), Fail> {
-    let world = World::new(0, homes, files, &[], None);
+    let world = World::new(0, homes, files, &[], None, Dialect::Core);
     holds!(rt; world.order(0, 0).is_some());
     holds!(rt; world.order(0, 1).is_none());
     holds!(rt; world.order(1, 0).is_none());

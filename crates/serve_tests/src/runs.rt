@@ -3,6 +3,7 @@
 ghost use Rattle.std.specs.Prelude.{◌≡◌, ◌<◌, ◌≤◌, All, IfOk, length};
 
 use star_checks::holds;
+use star_dialect::{Dialect, Mode};
 use star_host::gate::Gate;
 use star_host::{Reads, Run, RunOptions, run};
 use star_label::files::Files;
@@ -33,7 +34,10 @@ pub const BY_TWO: RunOptions<'static> = RunOptions {
     roots: &[],
     prelude: None,
     loaders: 2,
-    steps: 100_000,
+    mode: Mode {
+        steps: 100_000,
+        dialect: Dialect::Core,
+    },
     seed: 1,
     ballast: None,
 };

@@ -11,6 +11,9 @@ use std::alloc::{AllocError, Global};
 /// The number of characters of a text that are kept.
 const WIDTH: usize = 60;
 
+/// The number of bytes of a text that are looked at: more than so many characters have.
+const MOST_BYTES: usize = 256;
+
 /// A value with more items than this gets the empty text.
 const MOST_ITEMS: usize = 1_000;
 
@@ -73,8 +76,9 @@ impl<'w, 'a, 't> Look<'w, 'a, 't> {
         if self.machine.size(setting, value) > MOST_ITEMS {
             return Text::new(self.alloc, "");
         }
-        match self.machine.repr(setting, LEVELS, self.fault.line, value) {
-            Ok(text) => cut(self.alloc, text.as_str()),
+        let line = self.fault.line;
+        match self.machine.repr(setting, LEVELS, line, value, MOST_BYTES) {
+            Ok(text) => cut(self.alloc, text.start(MOST_BYTES)?.as_str()),
             Err(EvalError::Memory) => Err(AllocError),
             Err(_) => Text::new(self.alloc, ""),
         }

@@ -1,5 +1,6 @@
 -- The answers for a run.
 use Rattle.std.proofs.Common.{◌≡◌, ℕ, Bool, true, false, List, Option, length, map, sym, subst}
+use Rattle.star_dialect.specs.declared.Mode.{Mode}
 use Rattle.star_label.specs.Files.{File}
 use Rattle.star_outcome.specs.Kept.{AllGood, AreModulesOf, RunView}
 use Rattle.star_plan.specs.Report.{IsReport}
@@ -12,16 +13,16 @@ use Rattle.star_report.specs.declared.wanted.Output.TheVariants.{Report}
 use Rattle.star_report.specs.declared.wanted.Wanted.{Wanted}
 
 -- the text of a run's report, and whether its modules are good, in the plan of the files
-pub answered_in : (wanted : Wanted) (files : List File) (roots : List ℕ) (prelude : Option ℕ) (steps : ℕ) (row : Row) (run : RunView) (text : List ℕ) (ok : Bool) → run.begun ≡ length run.kept → AreModulesOf files roots prelude steps run.kept → IsReadOf files roots prelude row
+pub answered_in : (wanted : Wanted) (files : List File) (roots : List ℕ) (prelude : Option ℕ) (mode : Mode) (row : Row) (run : RunView) (text : List ℕ) (ok : Bool) → run.begun ≡ length run.kept → AreModulesOf files roots prelude mode run.kept → IsReadOf files roots prelude row
     → ReportsRun wanted files row roots run text → (ok ≡ true → AllGood run.kept) → (ok ≡ false → AllGood run.kept → ⊥)
-    → InPlanOf files roots prelude steps (λ plan. IsOutput (Report wanted) files plan text ok)
-answered_in wanted files roots prelude steps row run text ok count (plan, planned, of_roots, of_prelude, of_steps, are) read writes good bad =
+    → InPlanOf files roots prelude mode (λ plan. IsOutput (Report wanted) files plan text ok)
+answered_in wanted files roots prelude mode row run text ok count (plan, planned, of_roots, of_prelude, of_mode, are) read writes good bad =
     let but = writes plan planned of_roots (subst (λ p. IsReadOf files roots p row) (sym of_prelude) read) are in (
       plan,
       planned,
       of_roots,
       of_prelude,
-      of_steps,
+      of_mode,
       (
         record {
           begun = run.begun;

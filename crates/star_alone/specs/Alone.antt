@@ -1,6 +1,7 @@
 -- The answer for the bytes of a bundle.
 use Rattle.std.specs.Prelude.{◌≡◌, ◌⊎◌, ℕ, List, Bool, Option, Result, Ok, Err, String, if◌then◌else◌, length, map, nat_lt, option_map, string_bytes}
 use denote.Ref.{Bor}
+use Rattle.star_dialect.specs.declared.Mode.{Mode}
 use Rattle.star_bundle.specs.Bundle.{Asked, asked_of}
 use Rattle.star_bundle.specs.Refusal.{Fails}
 use Rattle.star_bundle.specs.declared.error.ServeError.{ServeError}
@@ -26,15 +27,15 @@ asked_by roots prelude input =
 
 -- a text is the report of an input, with the further members that are wanted, and the answer is whether each module of
 -- it is ok
-abbrev pub IsAnswered : Wanted → Asked → ℕ → List ℕ → Bool → Type 0
-IsAnswered wanted asked steps text all_ok =
-    InPlanOf asked.files asked.roots asked.prelude steps
+abbrev pub IsAnswered : Wanted → Asked → Mode → List ℕ → Bool → Type 0
+IsAnswered wanted asked mode text all_ok =
+    InPlanOf asked.files asked.roots asked.prelude mode
     (λ plan. IsOutput (Report wanted) asked.files plan text all_ok)
 
 -- this is so of an input that is not refused
-abbrev pub IsAnswerTo : Result Asked ServeError → Wanted → ℕ → List ℕ → Bool → Type 0
-IsAnswerTo given wanted steps text all_ok =
-    (asked : Asked) × (given ≡ Ok asked) × IsAnswered wanted asked steps text all_ok
+abbrev pub IsAnswerTo : Result Asked ServeError → Wanted → Mode → List ℕ → Bool → Type 0
+IsAnswerTo given wanted mode text all_ok =
+    (asked : Asked) × (given ≡ Ok asked) × IsAnswered wanted asked mode text all_ok
 
 -- a refusal of this input: the one that the rules give, or a failed allocation, or a module of it that was not
 -- published

@@ -10,6 +10,7 @@ use crate::report::report_alone;
 use crate::running::run_alone;
 use star_bundle::bundle::{AskedFor, asked_for};
 use star_bundle::error::ServeError;
+use star_dialect::Mode;
 use star_host::{Reads, RunError, RunOptions};
 use star_outcome::shelf::Shelf;
 use star_report::report::all_good;
@@ -34,16 +35,16 @@ fn answer_over<'t>(
     asked: &AskedFor,
     trees: &'t Shelf<Tree>,
     reads: &mut Reads<'t>,
-    steps: u32,
+    mode: Mode,
     seed: u64,
     wanted: Wanted,
 ) -> Result<Answered, ServeError>
     requires cells { length trees.now ≡ length asked.now.files + 1 }
     requires roots { All (λ n. n < length asked.now.files) asked.now.roots.items }
     requires prelude { IfSome asked.now.prelude (λ n. n < length asked.now.files) }
-    requires steps { (1 ≤ steps) × (steps ≤ 100000000) }
+    requires steps { (1 ≤ mode.steps) × (mode.steps ≤ 100000000) }
     ensures kinds { IfErr result (λ e. (e ≡ ServeError.Memory) ⊎ (e ≡ ServeError.Unpublished)) }
-    ensures ok { IfOk result (λ a. IsAnswered wanted (asked_view asked.now) steps a.text.items a.all_ok) }
+    ensures ok { IfOk result (λ a. IsAnswered wanted (asked_view asked.now) mode a.text.items a.all_ok) }
 {
     let files = &asked.files;
     let roots = asked.roots.as_slice();
@@ -51,7 +52,7 @@ fn answer_over<'t>(
         roots,
         prelude: asked.prelude,
         loaders: 1,
-        steps,
+        mode,
         seed,
         ballast: None,
     };
@@ -69,19 +70,19 @@ fn answer_over<'t>(
 fn answer_asked(
     alloc: Global,
     asked: &AskedFor,
-    steps: u32,
+    mode: Mode,
     seed: u64,
     wanted: Wanted,
 ) -> Result<Answered, ServeError>
     requires roots { All (λ n. n < length asked.now.files) asked.now.roots.items }
     requires prelude { IfSome asked.now.prelude (λ n. n < length asked.now.files) }
-    requires steps { (1 ≤ steps) × (steps ≤ 100000000) }
+    requires steps { (1 ≤ mode.steps) × (mode.steps ≤ 100000000) }
     ensures kinds { IfErr result (λ e. (e ≡ ServeError.Memory) ⊎ (e ≡ ServeError.Unpublished)) }
-    ensures ok { IfOk result (λ a. IsAnswered wanted (asked_view asked.now) steps a.text.items a.all_ok) }
+    ensures ok { IfOk result (λ a. IsAnswered wanted (asked_view asked.now) mode a.text.items a.all_ok) }
 {
     let trees = tree_cells(alloc, &asked.files)?;
     let mut reads = Reads::new(alloc);
-    answer_over(alloc, asked, &trees, &mut reads, steps, seed, wanted)
+    answer_over(alloc, asked, &trees, &mut reads, mode, seed, wanted)
 }
 
 /// The seed for the hashes of keys, drawn from the input: to choose keys that all collide, one must know the input that
@@ -111,8 +112,8 @@ fn input_of(
 }
 
 /// The report of the bundle with these bytes, for these roots and this prelude, with the further members of each module
-/// that are wanted. `steps` is the number of steps that each body may take, from 1 to 100,000,000. All is done by the
-/// caller's own thread, and all memory but the text's is back when it returns.
+/// that are wanted. `mode` has the steps that each body may take, from 1 to 100,000,000, and the dialect. All is done by
+/// the caller's own thread, and all memory but the text's is back when it returns.
 ///
 /// The rules are in `docs/REPORT.md`: what a bundle is, the refusals in their order, and the report. `TooBig` if there
 /// are more than 268,435,456 bytes, before all other refusals.
@@ -121,15 +122,15 @@ pub fn answer_alone(
     bytes: &[u8],
     roots: &[String],
     prelude: Option<&String>,
-    steps: u32,
+    mode: Mode,
     wanted: Wanted,
 ) -> Result<Answered, ServeError>
-    requires steps { (1 ≤ steps) × (steps ≤ 100000000) }
+    requires steps { (1 ≤ mode.steps) × (mode.steps ≤ 100000000) }
 
     // The bytes are a bundle that has each root and the prelude. The text is its report, and the answer is whether each
     // module of it is ok.
     ensures ok { IfOk result (λ a.
-        IsAnswerTo (asked_by roots.now prelude.entry bytes.now) wanted steps a.text.items a.all_ok) }
+        IsAnswerTo (asked_by roots.now prelude.entry bytes.now) wanted mode a.text.items a.all_ok) }
 
     // The refusal is the first that the rules give, or an allocation failed, or a module was not published.
     ensures refused { IfErr result (IsRefusedBy (asked_by roots.now prelude.entry bytes.now)) }
@@ -138,7 +139,7 @@ pub fn answer_alone(
         Ok(asked) => asked,
         Err(error) => return Err(error),
     };
-    match answer_asked(alloc, &asked, steps, seed_of(bytes), wanted) {
+    match answer_asked(alloc, &asked, mode, seed_of(bytes), wanted) {
         Ok(answered) => Ok(answered),
         Err(error) => Err(error),
     }

@@ -19,7 +19,7 @@ use star_machine::setting::Setting;
 use star_meaning::fault::FaultCode;
 use star_meaning::given::{Arguments, KeywordArgument};
 use star_store::values::Value;
-use star_text::Text;
+use star_visit::draft::Draft;
 
 /// How fields have found their values so far.
 #[derive(Clone, Copy, Debug, PartialEq, Eq)]
@@ -202,8 +202,8 @@ fn field_value(
     Err(fault_at(FaultCode::BadValue, line))
 }
 
-/// The `str` of the value of a field, and how fields find their values from then on. The faults are those of the field
-/// and of the text.
+/// The `str` of the value of a field, a draft in which at most about `room` bytes of long strings are copied, and how
+/// fields find their values from then on. The faults are those of the field and of the text.
 pub fn field_text(
     machine: &mut Machine,
     setting: &Setting,
@@ -212,12 +212,13 @@ pub fn field_text(
     given: &Arguments,
     field: &str,
     numbering: Numbering,
-) -> Result<(Text, Numbering), EvalError>
+    room: usize,
+) -> Result<(Draft, Numbering), EvalError>
     ensures { RefinesBy text_and_numbering
         (field_text setting.now levels line given.now field.now (as_numbering numbering) machine.old)
         result machine.new }
 {
     let (value, numbering) = field_value(machine, line, given, field, numbering)?;
-    let text = machine.str(setting, levels, line, value)?;
+    let text = machine.str(setting, levels, line, value, room)?;
     Ok((text, numbering))
 }

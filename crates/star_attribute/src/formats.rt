@@ -3,7 +3,7 @@
 //! The string is cut only at ASCII braces, so each piece is UTF-8 and the work linear. It is copied once, since the
 //! texts of fields change the machine.
 
-ghost use Rattle.std.specs.Prelude.{◌≡◌, ◌≤◌, ◌∷◌, [], IfOk, false, length, string_bytes};
+ghost use Rattle.std.specs.Prelude.{◌≡◌, ◌≤◌, ◌∷◌, [], IfOk, false, length};
 ghost use Rattle.star_attribute.specs.Formats.{ReadsOn, formatting};
 ghost use Rattle.star_machine.specs.Cuts.{is_neither};
 ghost use Rattle.star_meaning.specs.Format as spec;
@@ -20,7 +20,7 @@ use star_machine::machine::Machine;
 use star_meaning::fault::FaultCode;
 use star_method::texts::pay_for_bytes;
 use star_store::values::Value;
-use star_text::Text;
+use star_visit::draft::Draft;
 
 /// Puts the text for the braces after a `{`: the text of a field's value, or a `{` for another `{`. Returns the rest of
 /// the format, and how fields find their values from then on. `BadValue` if no brace follows, and for a `{` inside of a
@@ -28,12 +28,12 @@ use star_text::Text;
 fn read_field<'a>(
     machine: &mut Machine,
     call: Call<'_>,
-    out: &mut String,
+    out: &mut Draft,
     after: &'a str,
     numbering: Numbering,
 ) -> Result<(&'a str, Numbering), EvalError>
     ensures reads { ReadsOn call.entry
-        (formatting call.entry after.now (spec.Field []) numbering (string_bytes out.old) machine.old)
+        (formatting call.entry after.now (spec.Field []) numbering out.old machine.old)
         result out.new machine.new }
     ensures shorter { IfOk result (λ r. length r.0.now ≤ length after.now) }
 {
@@ -49,14 +49,15 @@ fn read_field<'a>(
             call.given,
             field,
             numbering,
+            out.room(),
         )?;
-        out.push_str(text.as_str())?;
+        out.put_draft(text)?;
         return Ok((more, next));
     }
     if !field.is_empty() {
         return Err(fault_at(FaultCode::BadValue, call.line));
     }
-    out.push('{')?;
+    out.say("{")?;
     Ok((more, numbering))
 }
 
@@ -65,14 +66,14 @@ fn read_field<'a>(
 fn read_brace<'a>(
     machine: &mut Machine,
     call: Call<'_>,
-    out: &mut String,
+    out: &mut Draft,
     brace: u8,
     after: &'a str,
     numbering: Numbering,
 ) -> Result<(&'a str, Numbering), EvalError>
     requires { is_neither 123 125 brace ≡ false }
     ensures reads { ReadsOn call.entry
-        (formatting call.entry (brace ∷ after.now) spec.Outside numbering (string_bytes out.old) machine.old)
+        (formatting call.entry (brace ∷ after.now) spec.Outside numbering out.old machine.old)
         result out.new machine.new }
     ensures shorter { IfOk result (λ r. length r.0.now ≤ length after.now) }
 {
@@ -81,7 +82,7 @@ fn read_brace<'a>(
     }
     match first_ascii(after) {
         Some((b'}', more)) => {
-            out.push('}')?;
+            out.say("}")?;
             Ok((more, numbering))
         }
         _ => Err(fault_at(FaultCode::BadValue, call.line)),
@@ -90,26 +91,27 @@ fn read_brace<'a>(
 
 /// The format from left to right, with the texts of the values in the places of its fields. `BadValue` for braces that
 /// are not paired, and the faults of the fields.
-fn formatted(machine: &mut Machine, call: Call<'_>, format: &str) -> Result<Text, EvalError>
+fn formatted(machine: &mut Machine, call: Call<'_>, format: &str) -> Result<Draft, EvalError>
     ensures { Refines (formatting call.entry format.now spec.Outside Numbering.Unused [] machine.old)
         result machine.new }
 {
-    let mut out = String::new(machine.alloc());
+    let mut out = Draft::new(machine.alloc(), machine.steps_left() as usize);
     let mut rest = format;
     let mut numbering = Numbering::Unused;
     while let Some((before, brace, after)) = cut_at(rest, b'{', b'}') {
-        out.push_str(before)?;
+        out.say(before)?;
         let (more, next) = read_brace(machine, call, &mut out, brace, after, numbering)?;
         rest = more;
         numbering = next;
     }
-    out.push_str(rest)?;
-    Ok(Text::of(out)?)
+    out.say(rest)?;
+    Ok(out)
 }
 
 /// `format(*x, **kw)`: the bytes are paid, then a new string, with the `str` of a value in the place of each `{}` (the
 /// next value), `{0}` (a value by its number) and `{name}`, and a brace for two. `BadValue` for another use of braces
-/// and for `{}` beside a number, `Index` for a place beyond all values, `Key` for a name that is not given.
+/// and for `{}` beside a number, `Index` for a place beyond all values, `Key` for a name that is not given. The new string
+/// is built only if it can be paid.
 pub fn call_format(machine: &mut Machine, text: Value, call: &Call) -> Result<Value, EvalError>
     // It is long since it names each argument of the definition.
     ensures { Refines (methods.call_format call.now.setting.now call.now.levels call.now.line
@@ -119,5 +121,5 @@ pub fn call_format(machine: &mut Machine, text: Value, call: &Call) -> Result<Va
     let format = machine.copied_text(call.setting, text)?;
     pay_for_bytes(machine, call.setting, call.line, text)?;
     let made = formatted(machine, *call, format.as_str())?;
-    machine.new_text(call.line, made)
+    machine.new_draft(call.line, made)
 }

@@ -1,16 +1,20 @@
 //! `x.m`: the methods of each type, by name; and the `match` that calls a bound method.
 
-ghost use Rattle.std.specs.Prelude.{◌≡◌};
-ghost use Rattle.std.specs.List.{find};
+ghost use Rattle.std.specs.Prelude.{◌≡◌, None, codes, nat_eq};
+ghost use Rattle.std.specs.List.{ends_with, find, starts_with};
 ghost use Rattle.star_machine.specs.Refines.{Refines};
+ghost use Rattle.star_machine.specs.Kinds.{bytes_of};
 ghost use Rattle.star_meaning.specs.Methods as spec;
+ghost use Rattle.star_meaning.specs.TableMethods.{call_wider};
+ghost use Rattle.star_meaning.specs.TextMethods.{call_edge, call_split};
 ghost use Rattle.star_meaning.specs.Run.{and_then};
 ghost use Rattle.star_machine.specs.Shown.{shown};
-ghost use Rattle.star_meaning.specs.Values.{type_name, want_text};
+ghost use Rattle.star_meaning.specs.Values.{content, type_name, want_text};
 ghost use Rattle.star_outline.specs.Names.{same_name};
 ghost use Rattle.star_store.specs.Names.{method_name};
 
 use crate::formats::call_format;
+use star_dialect::Dialect;
 use star_machine::call::Call;
 use star_machine::content::Content;
 use star_machine::fault::{EvalError, fault_at};
@@ -25,9 +29,11 @@ use star_method::lists::{
     call_append, call_clear, call_extend, call_index, call_insert, call_pop, call_remove,
 };
 use star_method::split::{call_replace, call_split};
+use star_method::table::{call_in_table, call_named};
 use star_method::texts::{Case, Edge, call_case, call_edge, call_find, call_join, call_strip};
 use star_store::names::Method;
 use star_store::values::{Cell, Value};
+use star_strings::table::StringMethod;
 
 /// The methods of lists.
 const LIST_METHODS: [Method; 7] = [
@@ -81,15 +87,38 @@ fn named(methods: &[Method], name: &str) -> Option<Method>
     None
 }
 
-/// The method with a name that a list, a dictionary or a string has.
-fn method_of(content: Content, name: &str) -> Option<Method>
-    ensures { result ≡ spec.method_of (type_name (shown content.entry)) name.now }
+/// The method of the core with a name that a list, a dictionary or a string has.
+fn core_method_of(content: Content, name: &str) -> Option<Method>
+    ensures { result ≡ spec.core_method_of (type_name (shown content.entry)) name.now }
 {
     match content {
         Content::Held(Cell::List(_)) => named(&LIST_METHODS, name),
         Content::Held(Cell::Dict(_)) => named(&DICT_METHODS, name),
         Content::Held(Cell::Text(_)) => named(&TEXT_METHODS, name),
         _ => None,
+    }
+}
+
+/// The method of the table with a name, if the value is a string and the dialect is the extended one.
+fn in_table(dialect: Dialect, content: Content, name: &str) -> Option<Method>
+    ensures { result ≡ spec.or_in_table dialect (type_name (shown content.entry)) name.now None }
+{
+    match (dialect, content) {
+        (Dialect::Extended, Content::Held(Cell::Text(_))) => match StringMethod::named(name) {
+            Some(method) => Some(Method::OfString(method)),
+            None => None,
+        },
+        _ => None,
+    }
+}
+
+/// The method with a name that a value has in a dialect.
+fn method_of(dialect: Dialect, content: Content, name: &str) -> Option<Method>
+    ensures { result ≡ spec.method_of dialect (type_name (shown content.entry)) name.now }
+{
+    match core_method_of(content, name) {
+        Some(method) => Some(method),
+        None => in_table(dialect, content, name),
     }
 }
 
@@ -104,10 +133,52 @@ pub fn attribute(
 ) -> Result<Value, EvalError>
     ensures { Refines (spec.attribute setting.now line value name.now machine.old) result machine.new }
 {
-    let Some(method) = method_of(machine.content(setting, value), name) else {
+    let Some(method) = method_of(setting.dialect(), machine.content(setting, value), name) else {
         return Err(fault_at(FaultCode::BadType, line));
     };
     machine.build(line, 1, Cell::Bound(method, value))
+}
+
+/// `startswith`: the core's, or the table's in the extended language.
+fn call_starts(machine: &mut Machine, text: Value, call: &Call) -> Result<Value, EvalError>
+    // It is long since it names each argument of the definition.
+    ensures { Refines (call_wider call.now.setting.now call.now.line (codes "startswith")
+        (bytes_of (content call.now.setting.now machine.old text)) call.now.given.now
+        (call_edge call.now.setting.now call.now.line (starts_with nat_eq)
+        (bytes_of (content call.now.setting.now machine.old text)) call.now.given.now) machine.old) result machine.new }
+{
+    match call.setting.dialect() {
+        Dialect::Core => call_edge(machine, Edge::Front, text, call),
+        Dialect::Extended => call_named(machine, "startswith", text, call),
+    }
+}
+
+/// `endswith`: the core's, or the table's in the extended language.
+fn call_ends(machine: &mut Machine, text: Value, call: &Call) -> Result<Value, EvalError>
+    // It is long since it names each argument of the definition.
+    ensures { Refines (call_wider call.now.setting.now call.now.line (codes "endswith")
+        (bytes_of (content call.now.setting.now machine.old text)) call.now.given.now
+        (call_edge call.now.setting.now call.now.line (ends_with nat_eq)
+        (bytes_of (content call.now.setting.now machine.old text)) call.now.given.now) machine.old) result machine.new }
+{
+    match call.setting.dialect() {
+        Dialect::Core => call_edge(machine, Edge::End, text, call),
+        Dialect::Extended => call_named(machine, "endswith", text, call),
+    }
+}
+
+/// `split`: the core's, or the table's in the extended language.
+fn call_splits(machine: &mut Machine, text: Value, call: &Call) -> Result<Value, EvalError>
+    // It is long since it names each argument of the definition.
+    ensures { Refines (call_wider call.now.setting.now call.now.line (codes "split")
+        (bytes_of (content call.now.setting.now machine.old text)) call.now.given.now
+        (call_split call.now.setting.now call.now.line
+        (bytes_of (content call.now.setting.now machine.old text)) call.now.given.now) machine.old) result machine.new }
+{
+    match call.setting.dialect() {
+        Dialect::Core => call_split(machine, text, call),
+        Dialect::Extended => call_named(machine, "split", text, call),
+    }
 }
 
 /// Calls a method of a string. `BadType` if the receiver is not a string, or the method is not one of strings.
@@ -124,7 +195,7 @@ fn call_on_text(
 {
     machine.check_text(call.setting, call.line, text)?;
     match method {
-        Method::StringEndswith => call_edge(machine, Edge::End, text, call),
+        Method::StringEndswith => call_ends(machine, text, call),
         Method::StringFind => call_find(machine, text, call),
         Method::StringFormat => call_format(machine, text, call),
         Method::StringJoin => call_join(machine, text, call),
@@ -132,10 +203,11 @@ fn call_on_text(
         Method::StringLstrip => call_strip(machine, true, false, text, call),
         Method::StringReplace => call_replace(machine, text, call),
         Method::StringRstrip => call_strip(machine, false, true, text, call),
-        Method::StringSplit => call_split(machine, text, call),
-        Method::StringStartswith => call_edge(machine, Edge::Front, text, call),
+        Method::StringSplit => call_splits(machine, text, call),
+        Method::StringStartswith => call_starts(machine, text, call),
         Method::StringStrip => call_strip(machine, true, true, text, call),
         Method::StringUpper => call_case(machine, Case::Upper, text, call),
+        Method::OfString(method) => call_in_table(machine, method, text, call),
         _ => Err(fault_at(FaultCode::BadType, call.line)),
     }
 }

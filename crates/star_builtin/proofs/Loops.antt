@@ -16,3 +16,7 @@ joined_two by t u (v ∷ vs) = ap (λ xs. xs ++ joined by (v ∷ vs)) (append_as
 
 pub joined_next : (by t : List ℕ) (i : ℕ) (d : List ℕ) (ts : List (List ℕ)) → i < length ts → joined by (((t ++ by) ++ get_or ts i d) ∷ drop (i + 1) ts) ≡ joined by (t ∷ drop i ts)
 joined_next by t i d ts h = joined_two by t (get_or ts i d) (drop (i + 1) ts) ∙ sym (rw (add-one, drop-cons ts i d) refl)
+
+pub joined_end : (by t y : List ℕ) (ys : List (List ℕ)) → joined by (t ∷ (ys ++ (y ∷ []))) ≡ (joined by (t ∷ ys) ++ by) ++ y
+joined_end by t y [] = refl
+joined_end by t y (u ∷ us) = ap (λ z. (t ++ by) ++ z) (joined_end by u y us) ∙ sym (append_assoc (t ++ by) (joined by (u ∷ us) ++ by) y) ∙ ap (λ z. z ++ y) (sym (append_assoc (t ++ by) (joined by (u ∷ us)) by))

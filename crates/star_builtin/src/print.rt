@@ -1,6 +1,6 @@
 //! `print`, `fail`, `repr`, `str` and `type`.
 
-ghost use Rattle.std.specs.Prelude.{◌≡◌, ◌∷◌, IfOk, OnOk, string_bytes};
+ghost use Rattle.std.specs.Prelude.{◌≡◌, ◌∷◌, IfOk, OnOk};
 ghost use Rattle.star_meaning.specs.BuiltIns as spec;
 ghost use Rattle.star_machine.specs.Refines.{Refines, RefinesBy};
 ghost use Rattle.star_meaning.specs.Run.{each};
@@ -17,48 +17,50 @@ use star_machine::setting::Setting;
 use star_meaning::fault::FaultCode;
 use star_store::values::{Cell, Value};
 use star_text::Text;
+use star_visit::draft::Draft;
 use std::alloc::{AllocError, Global};
 
-/// The `str` of each value.
+/// The `str` of each value, as drafts in which no more long strings are copied than there are steps.
 fn texts(
     machine: &mut Machine,
     setting: &Setting,
     levels: u32,
     line: usize,
     values: &[Value],
-) -> Result<Vec<Text>, EvalError>
+) -> Result<Vec<Draft>, EvalError>
     ensures { RefinesBy (λ v. v.items) (each (str setting.now levels line) values.now machine.old) result machine.new }
 {
     let mut texts = Vec::new(machine.alloc());
+    let mut room = machine.steps_left() as usize;
     for value in values {
-        texts.push(machine.str(setting, levels, line, *value)?)?;
+        let text = machine.str(setting, levels, line, *value, room)?;
+        room = text.room();
+        texts.push(text)?;
     }
     Ok(texts)
 }
 
-/// Puts texts after a line, each after another text.
-fn push_texts(line: &mut String, by: &Text, texts: &[Text]) -> Result<(), AllocError>
-    ensures { OnOk result (string_bytes line.new ≡ spec.joined by.now (string_bytes line.old ∷ texts.now)) }
+/// Puts drafts after a line, each after a text.
+fn push_texts(line: &mut Draft, by: &Text, texts: Vec<Draft>) -> Result<(), AllocError>
+    ensures { OnOk result (line.new ≡ spec.joined by.now (line.old ∷ texts.items)) }
 {
     for text in texts {
-        line.push_str(by.as_str())?;
-        line.push_str(text.as_str())?;
+        line.put(by)?;
+        line.put_draft(text)?;
     }
     Ok(())
 }
 
-/// Texts in one, with another one between each and the next.
-fn joined(alloc: Global, by: &Text, texts: &[Text]) -> Result<Text, AllocError>
-    ensures { IfOk result (λ t. t ≡ spec.joined by.now texts.now) }
+/// Drafts in one, with a text between each and the next.
+fn joined(alloc: Global, by: &Text, mut texts: Vec<Draft>) -> Result<Draft, AllocError>
+    ensures { IfOk result (λ t. t ≡ spec.joined by.now texts.items) }
 {
-    match texts {
-        [first, rest @ ..] => {
-            let mut line = String::from_str(alloc, first.as_str())?;
-            push_texts(&mut line, by, rest)?;
-            Text::of(line)
-        }
-        [] => Text::new(alloc, ""),
+    if texts.is_empty() {
+        return Ok(Draft::new(alloc, 0));
     }
+    let mut line = texts.remove(0);
+    push_texts(&mut line, by, texts)?;
+    Ok(line)
 }
 
 /// Adds a line of the `str` of each value, with a text between each and the next: 1 and the bytes of the line are paid
@@ -74,8 +76,8 @@ fn say(
     ensures { Refines (part.said setting.now levels line by.now values.now machine.old) result machine.new }
 {
     let texts = texts(machine, setting, levels, line, values)?;
-    let said = joined(machine.alloc(), by, &texts)?;
-    machine.pay(line, 1 + said.as_str().len() as u128)?;
+    let said = joined(machine.alloc(), by, texts)?;
+    let said = machine.pay_for_draft(line, said)?;
     machine.add_line(said)
 }
 
@@ -151,11 +153,12 @@ pub fn call_text(machine: &mut Machine, form: Form, call: &Call) -> Result<Value
         machine.old) result machine.new }
 {
     let value = call.only_one(machine)?;
+    let room = machine.steps_left() as usize;
     let text = match form {
-        Form::Repr => machine.repr(call.setting, call.levels, call.line, value)?,
-        Form::Str => machine.str(call.setting, call.levels, call.line, value)?,
+        Form::Repr => machine.repr(call.setting, call.levels, call.line, value, room)?,
+        Form::Str => machine.str(call.setting, call.levels, call.line, value, room)?,
     };
-    machine.new_text(call.line, text)
+    machine.new_draft(call.line, text)
 }
 
 /// `type(x)`: the name of the type of a value, as a new string. `Args` for another number of values and for a name.

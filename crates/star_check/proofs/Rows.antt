@@ -8,6 +8,7 @@ use Rattle.std.proofs.lemmas.Bool.{cases_eq, cases_lt}
 use Rattle.std.proofs.lemmas.List.{get_or_append_left, get_or_push, length-map, map_push}
 use Rattle.std.proofs.lemmas.List.Elements.{All-map, All-push}
 use Rattle.std.proofs.lemmas.Option.{get_or_from_slice_get, slice_get-get_or, slice_get-map, slice_get_within}
+use Rattle.star_dialect.specs.declared.Dialect.TheVariants.{Core}
 use Rattle.star_label.specs.Files.{File}
 use Rattle.star_scope.specs.declared.loads.Load.{Load}
 use Rattle.star_plan.specs.Plan.{Plan, Reading, loaded, loads_of, read_of}
@@ -195,7 +196,7 @@ check_all files row plan n ms planned is end below = record {
 -- each needed file is in the row
 pub rows_within : (row : Row) (rows : sound.Needs) → rows ≡ map needs_in (readings row) → LeadWithin row → sound.AreWithin rows
 rows_within row rows e lead n ns has =
-    let plan : Plan = record { roots = []; prelude = None; steps = 0; reads = readings row } in
+    let plan : Plan = record { roots = []; prelude = None; mode = record { steps = 0; dialect = Core }; reads = readings row } in
     let its : sound.NeedsAll (needs plan) n ns = subst (λ rs. sound.NeedsAll rs n ns) e has in
     let same : ns ≡ map (λ (l : Load). l.file) (loads_at row n) = needs_loaded plan n ns its ∙ ap (map (λ (l : Load). l.file)) (loads_are plan row n refl) in
     let size : length rows ≡ length row = ap length e ∙ (length-map (readings row) needs_in ∙ length-map row (option_map reading_of)) in

@@ -1,6 +1,7 @@
 //! The arguments that built-in functions and methods take.
 
 use star_found::about::Type;
+use star_strings::table::{Entry, Kind, StringMethod};
 
 /// The kind that a value has to be of.
 #[derive(Clone, Copy)]
@@ -11,6 +12,10 @@ pub(crate) enum Wanted {
     Text,
     /// A string, or a tuple of strings.
     Texts,
+    /// A string or None.
+    MaybeText,
+    /// An int or None.
+    MaybeInt,
     /// A list, tuple, dict or range.
     Iterable,
     /// An iterable or a string.
@@ -33,6 +38,8 @@ impl Wanted {
             Wanted::Bool => matches!(kind, Type::Bool),
             Wanted::Text => matches!(kind, Type::Text),
             Wanted::Texts => matches!(kind, Type::Text | Type::Tuple),
+            Wanted::MaybeText => matches!(kind, Type::Text | Type::Nothing),
+            Wanted::MaybeInt => matches!(kind, Type::Int | Type::Nothing),
             Wanted::Iterable | Wanted::Pairs => is_iterable,
             Wanted::Sized => is_iterable || matches!(kind, Type::Text),
             Wanted::Numeral => matches!(kind, Type::Text | Type::Int | Type::Bool),
@@ -48,6 +55,8 @@ impl Wanted {
             Wanted::Bool => "a bool",
             Wanted::Text => "a string",
             Wanted::Texts => "a string or a tuple of strings",
+            Wanted::MaybeText => "a string or None",
+            Wanted::MaybeInt => "an int or None",
             Wanted::Iterable => "a list, tuple, dict or range",
             Wanted::Sized => "a string, list, tuple, dict or range",
             Wanted::Numeral => "a string, an int or a bool",
@@ -103,13 +112,48 @@ fn of_function(name: &str) -> (Wanted, Wanted) {
     (Wanted::Anything, Wanted::Anything)
 }
 
+/// The row of a method of strings that only the extended language has.
+fn row(name: &str, receiver: Type) -> Option<Entry> {
+    if receiver != Type::Text {
+        return None;
+    }
+    match StringMethod::named(name) {
+        Some(method) => method.entry(),
+        None => None,
+    }
+}
+
+/// What the n-th argument of a row has to be.
+fn wanted_at(entry: &Entry, n: usize) -> Wanted {
+    match entry.wants.get(n) {
+        Some(Kind::Text) => Wanted::Text,
+        Some(Kind::MaybeText) => Wanted::MaybeText,
+        Some(Kind::Texts) => Wanted::Texts,
+        Some(Kind::Int) => Wanted::Int,
+        Some(Kind::Place) => Wanted::MaybeInt,
+        Some(Kind::Bool) => Wanted::Bool,
+        None => Wanted::Anything,
+    }
+}
+
 fn of_method(name: &str, receiver: Type) -> (Wanted, Wanted) {
     for (kind, method, first, second) in METHODS {
         if *kind == receiver && *method == name {
             return (*first, *second);
         }
     }
-    (Wanted::Anything, Wanted::Anything)
+    match row(name, receiver) {
+        Some(entry) => (wanted_at(&entry, 0), wanted_at(&entry, 1)),
+        None => (Wanted::Anything, Wanted::Anything),
+    }
+}
+
+/// Whether a value of this type has a method with this name in the extended language alone.
+pub(crate) fn is_extended(name: &str, receiver: Type) -> bool {
+    match row(name, receiver) {
+        Some(_) => !methods(receiver).contains(&name),
+        None => false,
+    }
 }
 
 /// The first and second argument of a built-in function, or of a method of a receiver of a type.
@@ -165,13 +209,27 @@ fn function_count(name: &str) -> &'static str {
     "one value"
 }
 
+/// How many values a row takes.
+fn row_count(entry: &Entry) -> &'static str {
+    match (entry.least, entry.wants.len()) {
+        (0, 0) => "no value",
+        (0, 1) => "at most one value",
+        (0, _) => "at most two values",
+        (_, 1) => "one value",
+        _ => "one to three values",
+    }
+}
+
 fn method_count(name: &str, receiver: Type) -> &'static str {
     for (kind, method, count) in METHOD_COUNTS {
         if *kind == receiver && *method == name {
             return *count;
         }
     }
-    "one value"
+    match row(name, receiver) {
+        Some(entry) if is_extended(name, receiver) => row_count(&entry),
+        _ => "one value",
+    }
 }
 
 /// How many values a built-in function, or a method of a receiver of a type, takes.

@@ -9,7 +9,7 @@ use star_found::about::Found;
 use star_label::files::Files;
 use star_meaning::fault::FaultCode;
 use star_meaning::story::Step;
-use star_mistakes::place::{Mark, shown, text_of};
+use star_mistakes::place::{Mark, text_of, whole};
 use star_outcome::module::{Ended, Left, Module};
 use star_outcome::outcome::Run;
 use star_reading::code::StaticFault;
@@ -159,7 +159,7 @@ fn stop_of(
     stop.trail = Some(Trail::of(alloc, module.number, *line, steps)?);
     if *code == FaultCode::Fail {
         if let Some(line) = lines.last() {
-            stop.said = Some(shown(alloc, line.as_str())?);
+            stop.said = Some(whole(alloc, line.as_str())?);
         }
     }
     if let Some(found) = found {

@@ -4,7 +4,7 @@
 //! (`entry`): a static fault (`star_mistakes`), a run that stopped, a cycle of loads (`cycles`). Files that fail by a
 //! load are counted under the cause to which their loads lead. `trail` finds where a run stopped, and by which calls.
 //! If it is known what a fault is about, `words` finds the word, and `texts` says what is wrong with it (`built_ins`
-//! has the arguments that built-in functions take). Else the text comes from `pages`, which has the meaning of each
+//! has the arguments that built-in functions take, `instead` what to write in place of what is missing). Else the text comes from `pages`, which has the meaning of each
 //! code.
 //!
 //! - `Form` says which entries are shown, how files are named, and whether there are colours (`paint`).
@@ -19,6 +19,7 @@ mod cycles;
 mod ends;
 mod entry;
 pub mod explain;
+mod instead;
 pub mod pages;
 mod paint;
 mod texts;

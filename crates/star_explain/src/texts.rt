@@ -1,6 +1,7 @@
 //! The texts on faults whose part and values are known.
 
-use crate::built_ins::{Wanted, count, methods, wanted_by};
+use crate::built_ins::{Wanted, count, is_extended, methods, wanted_by};
+use crate::instead::{of_arguments, of_method};
 use crate::words::unquoted;
 use star_found::about::{About, Found, Misfit, Shown, Type};
 use star_meaning::fault::FaultCode;
@@ -418,10 +419,33 @@ impl<'a> Saying<'a> {
         let text = match call.name {
             "join" => "` takes strings alone",
             "dict" | "update" => "` takes a dict, or an iterable of pairs",
-            "sorted" | "max" | "min" => "` takes ints alone or strings alone",
+            "sorted" => "` takes ints alone or strings alone",
+            "max" | "min" => return self.ordered(call),
+            "print" | "fail" => return self.of_built_in(
+                call.name,
+                "` takes a string as `sep`",
+                None,
+            ),
             _ => "` does not take this",
         };
         self.of_built_in(call.name, text, call.first)
+    }
+
+    /// The values that have no order, in a call of `max` or `min`.
+    fn ordered(self, call: BuiltInCall) -> Result<Option<String>, AllocError> {
+        let text = "` takes ints alone or strings alone";
+        let (Some(first), Some(second)) = (call.first, call.second) else {
+            return self.of_built_in(call.name, text, call.first);
+        };
+        self.text_of(&[
+            Part::Plain("`"),
+            Part::Plain(call.name),
+            Part::Plain(text),
+            Part::Plain(": "),
+            Part::Shown(told_text(first)),
+            Part::Plain(", "),
+            Part::Shown(told_text(second)),
+        ])
     }
 
     /// A text, and after a colon the text of a value if there is one.
@@ -652,12 +676,35 @@ impl<'a> Saying<'a> {
         self.parameters()
     }
 
+    /// A help that is known beforehand.
+    fn known(self, help: Option<&'static str>) -> Result<Option<String>, AllocError> {
+        match help {
+            Some(help) => Ok(Some(String::from_str(self.alloc, help)?)),
+            None => Ok(None),
+        }
+    }
+
+    /// The cure of an attribute that a value does not have.
+    fn attribute(self, name: &str, kind: Type) -> Result<Option<String>, AllocError> {
+        if is_extended(name, kind) {
+            return self.known(Some("the extended language has it: `--language extended`"));
+        }
+        if let Some(help) = of_method(kind, name) {
+            return self.known(Some(help));
+        }
+        match did_you_mean(self.alloc, name, methods(kind))? {
+            None if kind == Type::Dict => self.with_word("a key is read as `[\"", name, "\"]`"),
+            meant => Ok(meant),
+        }
+    }
+
     /// The cure.
     fn help(self) -> Result<Option<String>, AllocError> {
         match &self.found.about {
             About::Loaded(name) => self.near(name.as_str()),
-            About::Attribute { name, value, .. } => {
-                did_you_mean(self.alloc, name.as_str(), methods(value.of))
+            About::Attribute { name, value, .. } => self.attribute(name.as_str(), value.of),
+            About::BuiltIn { name, given, .. } if self.code == FaultCode::Args => {
+                self.known(of_arguments(name.as_str(), *given))
             }
             About::Index { at, .. } if self.code == FaultCode::Key && at.of == Type::Text => {
                 match self.near(unquoted(at.text.as_str()))? {

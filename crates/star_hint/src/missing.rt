@@ -27,14 +27,25 @@ fn names_of(alloc: Global, entries: &BTreeMap<String, Kind>) -> Result<Vec<&str>
     Ok(names)
 }
 
-/// Whether an entry that is not a folder has this name.
-fn is_there(entries: &BTreeMap<String, Kind>, name: &str) -> bool {
+/// The kind of the entry with this name.
+fn kind_of(entries: &BTreeMap<String, Kind>, name: &str) -> Option<Kind> {
     for (other, kind) in entries.iter() {
         if other.as_str() == name {
-            return *kind != Kind::Folder;
+            return Some(*kind);
         }
     }
-    false
+    None
+}
+
+/// Why an entry of this kind is not the file of a label; `None` if it is a file.
+fn about_kind(kind: Kind) -> Option<&'static str> {
+    match kind {
+        Kind::File => None,
+        Kind::Folder => Some("is a folder\n"),
+        Kind::Other => Some(
+            "is a link that leads to no file, or out of the folder, or it is no file\n  help: `--links=anywhere` follows links out of the folder\n",
+        ),
+    }
 }
 
 /// The name of an entry that a name was probably meant for.
@@ -61,12 +72,18 @@ pub fn about_file<L: Listing>(
     let name = name_of(label);
     let Ok(entries) = folder.entries(alloc, package) else {
         let package = shown(alloc, package)?;
-        return Ok(Some(format!(in alloc; "  there is no folder `{package}`\n")?));
+        return Ok(Some(format!(in alloc;
+            "  there is no folder `{package}`, or it may not be listed\n"
+        )?));
     };
-    if is_there(&entries, name) {
-        return Ok(None);
+    let label_text = shown(alloc, label.text())?;
+    if let Some(kind) = kind_of(&entries, name) {
+        return match about_kind(kind) {
+            Some(about) => Ok(Some(format!(in alloc; "  `{label_text}` {about}")?)),
+            None => Ok(None),
+        };
     }
-    let mut all = format!(in alloc; "  there is no file `{}`\n", shown(alloc, label.text())?)?;
+    let mut all = format!(in alloc; "  there is no file `{label_text}`\n")?;
     if let Some(near) = near_name(alloc, &entries, name)? {
         write!(all, "  help: did you mean `//{package}:{near}`?\n")?;
     }

@@ -5,6 +5,7 @@ use Rattle.std.specs.Prelude.{IfOk, IfSome, slice_get}
 use Rattle.std.specs.declared.alloc.AllocError.{AllocError}
 use Rattle.std.specs.declared.alloc.Global.{Global}
 use Rattle.std.specs.declared.sync.Arc.{Arc}
+use Rattle.star_dialect.specs.declared.Mode.{Mode}
 use Rattle.star_label.specs.Files.{File}
 use Rattle.star_plan.specs.Plan.{Plan}
 use Rattle.star_plan.specs.Reached.{IsReached}
@@ -17,8 +18,8 @@ use Rattle.star_host.specs.Worlds.{HasBody, IsContext}
 use Rattle.star_host.specs.declared.common.LoadContext.{LoadContext}
 
 -- none is known
-pub no_ends : (files : List File) (roots : List ℕ) (prelude : Option ℕ) (steps : ℕ) → AreGoodEndsOf files roots prelude steps []
-no_ends files roots prelude steps plan planned of_roots of_prelude of_steps n e at reached = absurd (let no : ⊥ = cc in no)
+pub no_ends : (files : List File) (roots : List ℕ) (prelude : Option ℕ) (mode : Mode) → AreGoodEndsOf files roots prelude mode []
+no_ends files roots prelude mode plan planned of_roots of_prelude of_mode n e at reached = absurd (let no : ⊥ = cc in no)
 
 -- a body that is known is the end of its file
 pub known_end : (files : List File) (plan : Plan) (shelf : List ℕ) (c : LoadContext) (n : ℕ) (o : Option (Arc Body Global)) (b : Arc Body Global) → IsContext files plan shelf c → IsReached plan n → o ≡ Some b → IfSome o (HasBody c n) → IsEnd plan n (Good b)

@@ -1,5 +1,6 @@
 -- The outcome of the run of a body, and its meaning in its world.
 use Rattle.std.specs.Prelude.{◌≡◌, ◌-◌, ℕ, IfOk, List, Option, Result}
+use Rattle.star_dialect.specs.declared.Dialect.{Dialect}
 use Rattle.star_scope.specs.declared.loads.Load.{Load}
 use Rattle.star_tree.specs.declared.tree.Statement.{Statement}
 use Rattle.star_meaning.specs.Module.{local}
@@ -17,8 +18,8 @@ use Rattle.star_plan.specs.Results.{IsOutcome, Ran}
 use Rattle.star_plan.specs.Shelves.{IsOwn}
 
 -- the world of a file whose body runs over the stores of a row
-abbrev pub world_in : ℕ → StoreRowView → Files → List Load → Option ℕ → World
-world_in home reaches programs loads prelude = world_of home (shelf_of reaches) programs loads prelude
+abbrev pub world_in : ℕ → StoreRowView → Files → List Load → Option ℕ → Dialect → World
+world_in home reaches programs loads prelude dialect = world_of home (shelf_of reaches) programs loads prelude dialect
 
 -- if the world is ready, this is the meaning of a file with these statements
 abbrev pub MeansLocal : {E : Type 0} → World → ℕ → List Statement → Result Outcome E → Type 0
@@ -35,7 +36,7 @@ IsOwnIn plan n (outcome.Fault code line lines remains) = Unit {0}
 
 -- a good run has paid the steps that were given, less those that are left
 abbrev pub IsPaidIn : Plan → ℕ → Outcome → Type 0
-IsPaidIn plan n (outcome.Good frozen texts lines left) = HasPaid plan n (plan.steps - left)
+IsPaidIn plan n (outcome.Good frozen texts lines left) = HasPaid plan n (plan.mode.steps - left)
 IsPaidIn plan n (outcome.Fault code line lines remains) = Unit {0}
 
 -- this is the outcome of a run of the file n: the file's outcome

@@ -21,7 +21,7 @@ use Rattle.star_host.specs.declared.loading.Turn.{Turn}
 use Rattle.star_host.specs.declared.loading.Turn.TheVariants.{Again, Enter, Ended}
 
 -- the data that loaders share is right for the cache: its files, the read files, their programs, its shelf, the
--- prelude's file and the steps. The read files are the plan of the files, and the ends that are known are good there
+-- prelude's file and the mode. The read files are the plan of the files, and the ends that are known are good there
 pub record IsContext (files : List File) (plan : Plan) (shelf : List ℕ) (c : LoadContext) : Type 0 where
   pub files_are : c.files.now ≡ files
   pub row_is : readings c.reads.now ≡ plan.reads
@@ -30,8 +30,8 @@ pub record IsContext (files : List File) (plan : Plan) (shelf : List ℕ) (c : L
   pub cells_fit : length shelf ≡ length files
   pub prelude_is : c.prelude ≡ plan.prelude
   pub prelude_fits : IfSome c.prelude (λ p. p < length files)
-  pub steps_are : c.steps ≡ plan.steps
-  pub steps_fit : (1 ≤ c.steps) × (c.steps ≤ 100000000)
+  pub mode_is : c.mode ≡ plan.mode
+  pub steps_fit : (1 ≤ c.mode.steps) × (c.mode.steps ≤ 100000000)
   pub planned : IsPlanOf files plan
   pub placed : ArePlaced files plan c.programs.now
   pub ends_are : AreGoodEnds plan c.ends.now
@@ -44,7 +44,7 @@ MayWork files plan shelf c =
 
 -- the plan of loaders that share this data
 abbrev pub plan_in : LoadContext → Plan
-plan_in c = record { roots = c.roots.now; prelude = c.prelude; steps = c.steps; reads = readings c.reads.now }
+plan_in c = record { roots = c.roots.now; prelude = c.prelude; mode = c.mode; reads = readings c.reads.now }
 
 -- this end of the file n is known
 abbrev pub HasEnd : LoadContext → ℕ → GoodEnd → Type 0

@@ -8,6 +8,7 @@ ghost use Rattle.star_reading.specs.Found.{IsReadOf};
 ghost use Rattle.star_reading.specs.Readings.{loads_at, table_of};
 
 use crate::options::RunOptions;
+use star_dialect::Mode;
 use star_label::files::Files as Labels;
 use star_outcome::good_end::GoodEnd;
 use star_outcome::memory::Size;
@@ -21,7 +22,7 @@ use std::sync::Arc;
 
 /// The data that all loaders share: the read files, the programs of all files, a shelf for the module of each file, the
 /// roots, the prelude's file, the number of loaders and the seed for the hashes of keys. Also the good ends that are
-/// known before the run, by the numbers of their files, and the steps that a body may take, which are 1 to 100,000,000.
+/// known before the run, by the numbers of their files, and the mode in which a body runs, whose steps are 1 to 100,000,000.
 #[derive(Drop)]
 pub struct LoadContext<'s, 'r, 'p, 't> {
     pub alloc: Global,
@@ -33,7 +34,7 @@ pub struct LoadContext<'s, 'r, 'p, 't> {
     pub roots: &'s [usize],
     pub prelude: Option<usize>,
     pub loaders: usize,
-    pub steps: u32,
+    pub mode: Mode,
     pub seed: u64,
     /// The ballast of each loader, if memory counts more than time.
     pub ballast: Option<Size>,
@@ -63,8 +64,8 @@ impl<'s, 'r, 'p, 't> LoadContext<'s, 'r, 'p, 't> {
         requires programs { programs.now ≡ table_of reads.now.all.items }
         requires cells { length modules.now ≡ length files.now }
         requires prelude { IfSome options.prelude (λ p. p < length files.now) }
-        requires steps { (1 ≤ options.steps) × (options.steps ≤ 100000000) }
-        requires ends { AreGoodEndsOf files.now options.roots.now options.prelude options.steps ends.now }
+        requires steps { (1 ≤ options.mode.steps) × (options.mode.steps ≤ 100000000) }
+        requires ends { AreGoodEndsOf files.now options.roots.now options.prelude options.mode ends.now }
         ensures world { IsContext result.files.now (plan_in result) result.modules.now result }
         ensures within { IsWithin result.files.now (plan_in result) }
         ensures asked { All (IsAsked result.files.now (plan_in result)) options.entry.roots.now }
@@ -73,7 +74,7 @@ impl<'s, 'r, 'p, 't> LoadContext<'s, 'r, 'p, 't> {
         ensures roots { result.roots.now ≡ options.entry.roots.now }
         ensures prelude { result.prelude ≡ options.entry.prelude }
         ensures loaders { result.loaders ≡ options.entry.loaders }
-        ensures steps { result.steps ≡ options.entry.steps }
+        ensures mode { result.mode ≡ options.entry.mode }
     {
         LoadContext {
             alloc,
@@ -85,7 +86,7 @@ impl<'s, 'r, 'p, 't> LoadContext<'s, 'r, 'p, 't> {
             roots: options.roots,
             prelude: options.prelude,
             loaders: options.loaders,
-            steps: options.steps,
+            mode: options.mode,
             seed: options.seed,
             ballast: options.ballast,
         }

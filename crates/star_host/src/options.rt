@@ -1,5 +1,6 @@
 //! The options of a run, and the facts that are known before it.
 
+use star_dialect::Mode;
 use star_outcome::good_end::GoodEnd;
 use star_outcome::memory::Size;
 use star_reading::parses::Parsed;
@@ -14,8 +15,8 @@ pub struct RunOptions<'a> {
     pub prelude: Option<usize>,
     /// How many loaders there are, from 1 to 64.
     pub loaders: usize,
-    /// How many steps each body may take, from 1 to 100,000,000.
-    pub steps: u32,
+    /// The mode in which each body runs: its steps are 1 to 100,000,000.
+    pub mode: Mode,
     /// The seed for the hashes of keys. No answer depends on it: if it differs from run to run, nobody who writes a
     /// file can choose keys that all collide.
     pub seed: u64,

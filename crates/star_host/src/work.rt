@@ -16,6 +16,7 @@ ghost use Rattle.star_reading.specs.declared.reading.Read.TheVariants as read;
 use crate::common::{LoadContext, file_number};
 use crate::gate::Gate;
 use star_about::look::{Fault, seek};
+use star_dialect::{Dialect, Mode};
 use star_found::about::Found;
 use star_module::{Outcome, Remains, run_body};
 use star_outcome::module::{Body, Ended, Left, Module};
@@ -40,17 +41,25 @@ fn outcome_in<'s, 'r, 'p, 't>(
     prelude: Option<u32>,
 ) -> Result<Outcome, AllocError>
     requires stands { file_in common.now.programs.now home ≡ Some (placed_file program.now) }
-    requires steps { (1 ≤ common.now.steps) × (common.now.steps ≤ 100000000) }
+    requires steps { (1 ≤ common.now.mode.steps) × (common.now.mode.steps ≤ 100000000) }
     ensures names { let c = common.now in MeansLocal
-        (world_in home reaches.now c.programs.now program.now.loads.items prelude)
-        c.steps program.now.statements.now result }
+        (world_in home reaches.now c.programs.now program.now.loads.items prelude c.mode.dialect)
+        c.mode.steps program.now.statements.now result }
     ensures named { let c = common.now in IsRunOf
-        (world_in home reaches.now c.programs.now program.now.loads.items prelude)
-        c.steps program.now.statements.now result }
+        (world_in home reaches.now c.programs.now program.now.loads.items prelude c.mode.dialect)
+        c.mode.steps program.now.statements.now result }
 {
     let homes = reaches.homes(common.alloc)?;
-    let world = World::new(home, &homes, common.programs, program.loads(), prelude);
-    run_body(common.alloc, &world, program, common.steps, common.seed)
+    let Mode { steps, dialect } = common.mode;
+    let world = World::new(
+        home,
+        &homes,
+        common.programs,
+        program.loads(),
+        prelude,
+        dialect,
+    );
+    run_body(common.alloc, &world, program, steps, common.seed)
 }
 
 /// Finds the part of the program that a fault is about, by a second look at the store of its run and the stores that it
@@ -79,6 +88,7 @@ fn found_of(
     files: &Files,
     loads: &[Load],
     prelude: Option<u32>,
+    dialect: Dialect,
 ) -> Option<Found> {
     let Outcome::Fault {
         code,
@@ -93,6 +103,7 @@ fn found_of(
         code: *code,
         line: *line,
         home,
+        dialect,
         trail: remains.trail.as_slice(),
     };
     match found_in(alloc, fault, &remains.store, reaches, files, loads, prelude) {
@@ -111,7 +122,7 @@ fn ended_of<J: RunId>(
     found: Option<Found>,
 ) -> Result<Ended, AllocError>
     requires ran { IsRan J.plan home outcome }
-    requires steps { steps ≡ J.plan.steps }
+    requires steps { steps ≡ J.plan.mode.steps }
     requires needed { AreNeeded J.plan home (row_of reaches) }
     requires all { (k : ℕ) → Needs J.plan home k → IsListed (row_of reaches) k }
     ensures { IfOk result (IsEnd J.plan home) }
@@ -181,8 +192,16 @@ fn run<'s, 'r, 'p, 't, J: RunId, G: Gate>(
         common.programs,
         program.loads(),
         prelude,
+        common.mode.dialect,
     );
-    ended_of::<J>(common.alloc, home, outcome, common.steps, reaches, found)
+    ended_of::<J>(
+        common.alloc,
+        home,
+        outcome,
+        common.mode.steps,
+        reaches,
+        found,
+    )
 }
 
 /// The body of a file whose good end is stale: the same over the stores that its loads have now. None if the end is not

@@ -5,3 +5,4 @@ pub mod Calls
 pub mod Names
 pub mod BoundArguments
 pub mod Iterations
+pub mod Dialects

@@ -5,3 +5,4 @@ pub mod Keys
 pub mod Calls
 pub mod BoundArguments
 pub mod Iterations
+pub mod Dialects

@@ -1,6 +1,7 @@
-//! Laws of the definitions of arithmetic, ranges, keys, calls and open iterations.
+//! Laws of the definitions of arithmetic, ranges, keys, calls, open iterations and dialects.
 
 ghost use Rattle.star_laws.specs.Calls.{BoundWhereTheyFit, GivenNamesDiffer};
+ghost use Rattle.star_laws.specs.Dialects.{CoreCallsItsOwn, CoreHasItsMethods, ExtendedHasThem};
 ghost use Rattle.star_laws.specs.Division.{OneQuotient, QuotientAndRemainder};
 ghost use Rattle.star_laws.specs.Iterations.{FilesBeginWithNoLoop, LoopsAreCounted, OpenIterationsAreOpenLoops, RunsEndTheirLoops};
 ghost use Rattle.star_laws.specs.Keys.{EqualKeysAreTheSame, KeysHaveEquality};
@@ -96,4 +97,21 @@ pub fn loops_are_counted()
 /// (`docs/LANGUAGE.md`, "Values".)
 pub fn open_iterations_are_open_loops()
     ensures { OpenIterationsAreOpenLoops }
+{}
+
+/// In the core language a value has the methods of the core, and no others. (`docs/LANGUAGE.md`, "Extended".)
+pub fn core_has_its_methods()
+    ensures { CoreHasItsMethods }
+{}
+
+/// A method of the core has its name in the extended language, too: no method of that language takes it.
+/// (`docs/LANGUAGE.md`, "Extended".)
+pub fn extended_has_them()
+    ensures { ExtendedHasThem }
+{}
+
+/// In the core language `split`, `startswith` and `endswith`, which take more in the extended one, do what they do
+/// without it. (`docs/LANGUAGE.md`, "Extended".)
+pub fn core_calls_its_own()
+    ensures { CoreCallsItsOwn }
 {}

@@ -34,6 +34,7 @@ use star_store::fault::StoreFault;
 use star_store::key::{check_key, place_of};
 use star_store::values::{Cell, Entries, Function, Value, Values};
 use star_text::Text;
+use star_visit::draft::Draft;
 use star_visit::equal::equal;
 use star_visit::order::order;
 use star_visit::text::repr;
@@ -268,6 +269,32 @@ impl Machine {
         self.build(line, cost, Cell::Text(text))
     }
 
+    /// A new string: 1 and its bytes are paid, and it is built only if they can be paid.
+    #[tactic(auto, unfolding(star_meaning::specs::Run::build, star_meaning::specs::Run::make, star_meaning::specs::Run::pay))]
+    pub fn new_draft(&mut self, line: usize, draft: Draft) -> Result<Value, EvalError>
+        ensures { Refines (new_text line draft self.old) result self.new }
+    {
+        match draft.text_within(self.steps as usize)? {
+            Some(text) => self.new_text(line, text),
+            None => Err(fault_at(FaultCode::Steps, line)),
+        }
+    }
+
+    /// Pays 1 and the bytes of a draft, and answers its text, which is built only if they can be paid.
+    #[tactic(auto, unfolding(star_meaning::specs::Run::pay))]
+    pub fn pay_for_draft(&mut self, line: usize, draft: Draft) -> Result<Text, EvalError>
+        ensures answer { Refines (and_then (pay line (1 + length draft) self.old) (λ paid. give draft)) result self.new }
+        ensures within { IfOk result (λ text. 1 + length text ≤ self.old.steps) }
+    {
+        match draft.text_within(self.steps as usize)? {
+            Some(text) => {
+                self.pay(line, 1 + text.as_str().len() as u128)?;
+                Ok(text)
+            }
+            None => Err(fault_at(FaultCode::Steps, line)),
+        }
+    }
+
     /// A new tuple: 1 and its items are paid.
     pub fn new_tuple(&mut self, line: usize, items: Values) -> Result<Value, EvalError>
         ensures { Refines (new_tuple line items self.old) result self.new }
@@ -413,7 +440,8 @@ impl Machine {
         answer.map_err(|fault| refused(fault, line))
     }
 
-    /// The text of a value, which pays a step for each visit.
+    /// The text of a value, which pays a step for each visit: a draft, in which at most about `room` bytes of long
+    /// strings are copied.
     #[tactic(auto, unfolding(star_meaning::specs::Values::repr))]
     pub fn repr(
         &mut self,
@@ -421,7 +449,8 @@ impl Machine {
         levels: u32,
         line: usize,
         value: Value,
-    ) -> Result<Text, EvalError>
+        room: usize,
+    ) -> Result<Draft, EvalError>
         ensures answer { Refines (repr setting.now levels line value self.old) result self.new }
         ensures kept { self.new.store ≡ self.old.store }
     {
@@ -429,7 +458,14 @@ impl Machine {
             steps: self.steps,
             levels,
         };
-        let answer = repr(self.alloc, &self.arena, setting.homes(), &mut budget, value);
+        let answer = repr(
+            self.alloc,
+            &self.arena,
+            setting.homes(),
+            &mut budget,
+            value,
+            room,
+        );
         self.steps = budget.steps;
         answer.map_err(|fault| refused(fault, line))
     }
@@ -563,7 +599,13 @@ impl Machine {
     }
 
     /// A string as it is, with one visit.
-    fn bare(&mut self, levels: u32, line: usize, text: Text) -> Result<Text, EvalError>
+    fn bare(
+        &mut self,
+        levels: u32,
+        line: usize,
+        text: Text,
+        room: usize,
+    ) -> Result<Draft, EvalError>
         ensures answer { Refines (visiting line (λ s. bare levels text) self.old) result self.new }
         ensures kept { self.new.store ≡ self.old.store }
     {
@@ -574,10 +616,10 @@ impl Machine {
             return Err(fault_at(FaultCode::Steps, line));
         }
         self.steps -= 1;
-        Ok(text)
+        Ok(Draft::of(self.alloc, text, room))
     }
 
-    /// The `str` of a value: a string itself, with one visit, else the text.
+    /// The `str` of a value: a string itself, with one visit, else the text; a draft, as of `repr`.
     #[tactic(auto, unfolding(star_meaning::specs::Values::str))]
     pub fn str(
         &mut self,
@@ -585,13 +627,14 @@ impl Machine {
         levels: u32,
         line: usize,
         value: Value,
-    ) -> Result<Text, EvalError>
+        room: usize,
+    ) -> Result<Draft, EvalError>
         ensures answer { Refines (str setting.now levels line value self.old) result self.new }
         ensures kept { self.new.store ≡ self.old.store }
     {
         match self.text_of(setting, value)? {
-            Some(text) => self.bare(levels, line, text),
-            None => self.repr(setting, levels, line, value),
+            Some(text) => self.bare(levels, line, text, room),
+            None => self.repr(setting, levels, line, value, room),
         }
     }
 

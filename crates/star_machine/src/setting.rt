@@ -12,6 +12,7 @@ ghost use Rattle.star_meaning.specs.Program.{file_of, published_of};
 ghost use Rattle.star_meaning.specs.Programs.{load_files};
 ghost use Rattle.star_machine.specs.Settings.{setting_over};
 
+use star_dialect::Dialect;
 use star_scope::loads::Load;
 use star_store::arena::{Frozen, Homes};
 use star_tree::tree::Statement;
@@ -26,6 +27,7 @@ pub struct Setting<'a> {
     files: &'a [Option<&'a [Statement]>],
     loads: &'a [Load],
     prelude: Option<u32>,
+    dialect: Dialect,
 }
 
 impl<'a> Model for Setting<'a> {
@@ -44,13 +46,13 @@ impl<'a> Model for Setting<'a> {
 
     ghost coded = { Prim.hlevel (codes, expression.the_row.coded, parameter.the_row.coded, statement.the_row.coded) };
 
-    ghost view = { λ s. record { home = s.home; outlines = outlines (map (option_map (λ ss. ss.now)) s.files.now); shelf = s.homes.now; loads = load_files s.loads.now; prelude = s.prelude } };
+    ghost view = { λ s. record { home = s.home; outlines = outlines (map (option_map (λ ss. ss.now)) s.files.now); shelf = s.homes.now; loads = load_files s.loads.now; prelude = s.prelude; dialect = s.dialect } };
 }
 
 impl<'a> Setting<'a> {
     /// The setting of a file that reaches these stores.
     pub fn new(home: u32, homes: &'a Homes<'a>) -> Setting<'a>
-        ensures { result ≡ record { home = home; outlines = []; shelf = homes.now; loads = []; prelude = None } }
+        ensures { result ≡ record { home = home; outlines = []; shelf = homes.now; loads = []; prelude = None; dialect = Dialect.Core } }
     {
         Setting {
             home,
@@ -58,6 +60,7 @@ impl<'a> Setting<'a> {
             files: &[],
             loads: &[],
             prelude: None,
+            dialect: Dialect::Core,
         }
     }
 
@@ -69,8 +72,9 @@ impl<'a> Setting<'a> {
         files: &'a [Option<&'a [Statement]>],
         loads: &'a [Load],
         prelude: Option<u32>,
+        dialect: Dialect,
     ) -> Setting<'a>
-        ensures { result ≡ setting_over home homes.now files.now loads.now prelude }
+        ensures { result ≡ setting_over home homes.now files.now loads.now prelude dialect }
     {
         Setting {
             home,
@@ -78,6 +82,7 @@ impl<'a> Setting<'a> {
             files,
             loads,
             prelude,
+            dialect,
         }
     }
 
@@ -114,6 +119,13 @@ impl<'a> Setting<'a> {
         ensures { result ≡ self.now.prelude }
     {
         self.prelude
+    }
+
+    /// The dialect.
+    pub fn dialect(&self) -> Dialect
+        ensures { result ≡ self.now.dialect }
+    {
+        self.dialect
     }
 }
 

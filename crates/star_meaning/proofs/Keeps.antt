@@ -18,6 +18,7 @@ use Rattle.star_tree.specs.declared.tree.Statement.{Statement}
 use Rattle.star_tree.specs.declared.tree.Target.{Target}
 use Rattle.star_tree.specs.declared.tree.Name.{Name}
 use Rattle.star_outline.specs.Definitions.{Definition}
+use Rattle.star_dialect.specs.declared.Dialect.TheVariants.{Core}
 use Rattle.star_meaning.specs.declared.fault.FaultCode.{FaultCode}
 use Rattle.star_meaning.specs.declared.site.Site.{Site}
 use Rattle.star_meaning.specs.declared.site.Flow.{Flow}
@@ -185,7 +186,7 @@ kept_by w k = k.kept
 -- ---- loops, which look at no setting
 
 nowhere : Setting
-nowhere = record { home = 0; outlines = []; shelf = []; loads = []; prelude = None }
+nowhere = record { home = 0; outlines = []; shelf = []; loads = []; prelude = None; dialect = Core }
 
 loop : {q : Bool} {A : Type 0} {m : Action A} → Respects (kept nowhere q) m → Keeps q m
 loop k = kept_by nowhere k

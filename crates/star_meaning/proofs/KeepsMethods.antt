@@ -10,6 +10,7 @@ use Rattle.star_meaning.proofs.Invariants.{Invariant, Respects, respects}
 use Rattle.star_meaning.proofs.KeepsValues.{respects-with_content, respects-want_text}
 use Rattle.star_meaning.proofs.KeepsListMethods.{respects-call_append, respects-call_clear, respects-call_extend, respects-call_index, respects-call_insert, respects-call_pop, respects-call_remove}
 use Rattle.star_meaning.proofs.KeepsDictMethods.{respects-call_get, respects-call_items, respects-call_keys, respects-call_values, respects-call_dict_pop, respects-call_popitem, respects-call_setdefault, respects-call_update}
+use Rattle.star_meaning.proofs.KeepsTableMethods.{respects-call_in_table, respects-call_wider}
 use Rattle.star_meaning.proofs.KeepsTextMethods.{respects-call_edge, respects-call_find, respects-call_join, respects-call_split, respects-call_strip, respects-call_case, respects-call_replace, respects-call_format}
 
 pub respects-attribute : (w : Setting) {inv : Invariant w} (line : ℕ) (x : Value) (name : List ℕ) → Respects inv (attribute w line x name)
@@ -17,7 +18,7 @@ unfolding attribute
 respects-attribute w line x name = search (respects, respects-with_content) depth 14
 
 pub respects-on_text : (w : Setting) {inv : Invariant w} (levels : ℕ) (line : ℕ) (a3 : Method) (t : List ℕ) (g : Arguments) → Respects inv (on_text w levels line a3 t g)
-respects-on_text w levels line method.StringEndswith t g = search (respects, respects-call_edge) depth 14
+respects-on_text w levels line method.StringEndswith t g = respects-call_wider w line _ t g _ (search (respects, respects-call_edge) depth 14)
 respects-on_text w levels line method.StringFind t g = search (respects, respects-call_find) depth 14
 respects-on_text w levels line method.StringFormat t g = search (respects, respects-call_format) depth 14
 respects-on_text w levels line method.StringJoin t g = search (respects, respects-call_join) depth 14
@@ -25,10 +26,11 @@ respects-on_text w levels line method.StringLower t g = search (respects, respec
 respects-on_text w levels line method.StringLstrip t g = search (respects, respects-call_strip) depth 14
 respects-on_text w levels line method.StringReplace t g = search (respects, respects-call_replace) depth 14
 respects-on_text w levels line method.StringRstrip t g = search (respects, respects-call_strip) depth 14
-respects-on_text w levels line method.StringSplit t g = search (respects, respects-call_split) depth 14
-respects-on_text w levels line method.StringStartswith t g = search (respects, respects-call_edge) depth 14
+respects-on_text w levels line method.StringSplit t g = respects-call_wider w line _ t g _ (search (respects, respects-call_split) depth 14)
+respects-on_text w levels line method.StringStartswith t g = respects-call_wider w line _ t g _ (search (respects, respects-call_edge) depth 14)
 respects-on_text w levels line method.StringStrip t g = search (respects, respects-call_strip) depth 14
 respects-on_text w levels line method.StringUpper t g = search (respects, respects-call_case) depth 14
+respects-on_text w levels line (method.OfString m) t g = search (respects, respects-call_in_table) depth 14
 respects-on_text w levels line _ t g = search respects depth 14
 
 pub respects-call_method : (w : Setting) {inv : Invariant w} (levels : ℕ) (line : ℕ) (a3 : Method) (x : Value) (g : Arguments) → Respects inv (call_method w levels line a3 x g)

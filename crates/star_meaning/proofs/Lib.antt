@@ -27,6 +27,7 @@ pub mod KeepsPairs
 pub mod KeepsPercent
 pub mod KeepsStatements
 pub mod KeepsSubscript
+pub mod KeepsTableMethods
 pub mod KeepsTargets
 pub mod KeepsTextMethods
 pub mod KeepsValues

@@ -15,6 +15,7 @@ use Rattle.star_tree.specs.declared.tree.Form.{out-Form}
 use Rattle.star_tree.specs.declared.tree.Form.TheVariants as f
 use Rattle.star_store.specs.Store.{Shelf}
 use Rattle.star_outline.specs.Outlines.{Outline}
+use Rattle.star_dialect.specs.declared.Dialect.TheVariants.{Core}
 use Rattle.star_meaning.specs.Module.{union, local, Local, Good, Stopped}
 use Rattle.star_meaning.specs.declared.fault.FaultCode.TheVariants as code
 use Rattle.star_meaning.proofs.Rows.{n, at, here, shown}
@@ -25,12 +26,12 @@ reached (Stopped f ls) = []
 
 -- a run of a file that loads nothing
 abbrev alone : List (Option Outline) → ℕ → ℕ → List Statement → Local
-alone outs home steps prog = local (record { home = home; outlines = outs; shelf = union []; loads = []; prelude = None }) steps prog
+alone outs home steps prog = local (record { home = home; outlines = outs; shelf = union []; loads = []; prelude = None; dialect = Core }) steps prog
 
 -- a run of a file that has one load: the token of its label, and the file that it names
 abbrev over : Local → ℕ × ℕ → List (Option Outline) → ℕ → ℕ → List Statement → Local
 over below load outs home steps prog =
-    local (record { home = home; outlines = outs; shelf = union (reached below ∷ []); loads = load ∷ []; prelude = None }) steps prog
+    local (record { home = home; outlines = outs; shelf = union (reached below ∷ []); loads = load ∷ []; prelude = None; dialect = Core }) steps prog
 
 abbrev absent_name_prog0 : List Statement
 absent_name_prog0 = ((at 1 101 (f.Load (record { text = (58 ∷ 98 ∷ 46 ∷ 115 ∷ 116 ∷ 97 ∷ 114 ∷ []); position = here 0 }) (record { local = n (113 ∷ []); loaded = record { text = (113 ∷ []); position = here 0 } } ∷ []))) ∷ [])

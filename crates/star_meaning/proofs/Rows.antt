@@ -20,6 +20,7 @@ use Rattle.star_tree.specs.declared.tree.Name.{Name}
 use Rattle.star_tree.specs.declared.tree.Position.{Position}
 use Rattle.star_outline.specs.declared.blocks.Block.{Block}
 use Rattle.star_outline.specs.Definitions.{Definition, Statements}
+use Rattle.star_dialect.specs.declared.Dialect.TheVariants.{Core}
 use Rattle.star_meaning.specs.Program.{Setting}
 use Rattle.star_meaning.specs.Module.{local, Local, Good, Stopped}
 use Rattle.star_meaning.specs.declared.fault.FaultCode.TheVariants as code
@@ -40,7 +41,7 @@ abbrev pub here : ℕ → Position
 here k = record { line = 0; token = k }
 
 abbrev one_file : List (List ℕ) → List Definition → List Block → Setting
-one_file names ds bs = record { home = 0; outlines = Some (record { definitions = ds; blocks = record { number = 0; names = names } ∷ bs; loaded = [] }) ∷ []; shelf = []; loads = []; prelude = None }
+one_file names ds bs = record { home = 0; outlines = Some (record { definitions = ds; blocks = record { number = 0; names = names } ∷ bs; loaded = [] }) ∷ []; shelf = []; loads = []; prelude = None; dialect = Core }
 
 abbrev i : ℕ → Expression
 i k = e.Int (pos k)

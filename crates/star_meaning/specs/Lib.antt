@@ -23,6 +23,7 @@ pub mod Format
 pub mod ListMethods
 pub mod DictMethods
 pub mod TextMethods
+pub mod TableMethods
 pub mod Methods
 pub mod Places
 pub mod Programs

@@ -1,11 +1,15 @@
 -- The methods: which a value has, and a call of each.
-use Rattle.std.specs.Prelude.{ℕ, nat_eq, true, false, ◌&&◌, List, [], ◌∷◌, Option}
+use Rattle.std.specs.Prelude.{ℕ, nat_eq, true, false, ◌&&◌, List, [], ◌∷◌, Option, Some, None, codes, if◌then◌else◌}
+use Rattle.std.specs.Option.{option_map}
 use Rattle.std.specs.List.{find, starts_with, ends_with}
 use Rattle.star_store.specs.declared.values.Value.{Value}
 use Rattle.star_store.specs.declared.values.Cell.TheVariants as cell
 use Rattle.star_store.specs.declared.names.Method.{Method}
 use Rattle.star_store.specs.declared.names.Method.TheVariants as method
 use Rattle.star_store.specs.Names.{method_name, receiver_type}
+use Rattle.star_strings.specs.Table.{named}
+use Rattle.star_dialect.specs.declared.Dialect.{Dialect}
+use Rattle.star_dialect.specs.declared.Dialect.TheVariants as dialect
 use Rattle.star_meaning.specs.declared.fault.FaultCode.TheVariants as code
 use Rattle.star_meaning.specs.Run.{Action, ◌>>=◌, fail, found, build}
 use Rattle.star_outline.specs.Names.{same_name}
@@ -15,9 +19,10 @@ use Rattle.star_meaning.specs.declared.given.Arguments.{Arguments}
 use Rattle.star_meaning.specs.ListMethods.{call_append, call_clear, call_extend, call_index, call_insert, call_pop, call_remove}
 use Rattle.star_meaning.specs.DictMethods.{call_get, call_items, call_keys, call_values, call_dict_pop, call_popitem, call_setdefault, call_update}
 use Rattle.star_meaning.specs.TextMethods.{call_edge, call_find, call_join, call_split, call_strip, call_case, call_replace, call_format}
+use Rattle.star_meaning.specs.TableMethods.{call_in_table, call_wider}
 use Rattle.star_meaning.specs.Texts.{lower, upper}
 
--- all methods
+-- the methods of the core
 abbrev pub methods : List Method
 methods =
     method.ListAppend ∷ method.ListClear ∷ method.ListExtend ∷ method.ListIndex ∷ method.ListInsert ∷ method.ListPop
@@ -27,19 +32,29 @@ methods =
     ∷ method.StringReplace ∷ method.StringRstrip ∷ method.StringSplit ∷ method.StringStartswith ∷ method.StringStrip
     ∷ method.StringUpper ∷ []
 
--- the method of this name that a value of this type has
-abbrev pub method_of : List ℕ → List ℕ → Option Method
-method_of type name = find (λ m. same_name (receiver_type m) type && same_name (method_name m) name) methods
+-- the method of the core with this name that a value of this type has
+abbrev pub core_method_of : List ℕ → List ℕ → Option Method
+core_method_of type name = find (λ m. same_name (receiver_type m) type && same_name (method_name m) name) methods
+
+-- .. and in a dialect: in the extended language a string has those of the table, too
+abbrev pub or_in_table : Dialect → List ℕ → List ℕ → Option Method → Option Method
+or_in_table d type name (Some m) = Some m
+or_in_table dialect.Core type name None = None
+or_in_table dialect.Extended type name None =
+    if same_name (codes "string") type then option_map method.OfString (named name) else None
+
+abbrev pub method_of : Dialect → List ℕ → List ℕ → Option Method
+method_of d type name = or_in_table d type name (core_method_of type name)
 
 -- x.m: a new bound method; one that the value does not have is `type`
 unfoldable pub attribute : Setting → ℕ → Value → List ℕ → Action Value
 attribute w line x name =
-    with_content w x (λ c. found code.BadType line (method_of (type_name c) name))
+    with_content w x (λ c. found code.BadType line (method_of w.dialect (type_name c) name))
     >>= λ m. build line 1 (cell.Bound m x)
 
 -- a call of a method of a string with these bytes, on the values given
 abbrev pub on_text : Setting → ℕ → ℕ → Method → List ℕ → Arguments → Action Value
-on_text w levels line method.StringEndswith t g = call_edge w line (ends_with nat_eq) t g
+on_text w levels line method.StringEndswith t g = call_wider w line (codes "endswith") t g (call_edge w line (ends_with nat_eq) t g)
 on_text w levels line method.StringFind t g = call_find w line t g
 on_text w levels line method.StringFormat t g = call_format w levels line t g
 on_text w levels line method.StringJoin t g = call_join w line t g
@@ -47,10 +62,11 @@ on_text w levels line method.StringLower t g = call_case line lower t g
 on_text w levels line method.StringLstrip t g = call_strip w line true false t g
 on_text w levels line method.StringReplace t g = call_replace w line t g
 on_text w levels line method.StringRstrip t g = call_strip w line false true t g
-on_text w levels line method.StringSplit t g = call_split w line t g
-on_text w levels line method.StringStartswith t g = call_edge w line (starts_with nat_eq) t g
+on_text w levels line method.StringSplit t g = call_wider w line (codes "split") t g (call_split w line t g)
+on_text w levels line method.StringStartswith t g = call_wider w line (codes "startswith") t g (call_edge w line (starts_with nat_eq) t g)
 on_text w levels line method.StringStrip t g = call_strip w line true true t g
 on_text w levels line method.StringUpper t g = call_case line upper t g
+on_text w levels line (method.OfString m) t g = call_in_table w line m t g
 on_text w levels line _ t g = fail code.BadType line
 
 -- a call of a bound method, whose visits may open this many levels

@@ -5,6 +5,7 @@ use Rattle.std.specs.Prelude.{All, Contains, IfSome, slice_get, slice_set}
 use Rattle.std.proofs.lemmas.Bool.Decides.{Decides-eqb}
 use Rattle.std.proofs.lemmas.List.{get_or-set_other}
 use Rattle.std.proofs.lemmas.Option.{slice_get_within, get_or_from_slice_get}
+use Rattle.star_dialect.specs.declared.Mode.{Mode}
 use Rattle.star_cache.specs.State.{Loads}
 use Rattle.star_label.specs.Files.{File, text_at}
 use Rattle.star_store.specs.Store.{Published}
@@ -76,7 +77,7 @@ pub record SharesBy (c : Change) (n m : ℕ) : Type 0 where
   pub own : AreStoresOf c m stores
   pub shared : AreShared stores program.loads.items program.statements.now
 
-module _ (c : Change) (is : IsChange c) (n m : ℕ) (text : text_at c.compared.now.before n ≡ text_at c.compared.now.files n) (load_is : LoadsNow c n m) (s : SharesBy c n m) (p q : Plan) (plan_p : IsPlanOf c.compared.now.before p) (prelude_p : p.prelude ≡ c.terms.prelude) (steps_p : p.steps ≡ c.terms.steps) (at_p : IsReached p n) (plan_q : IsPlanOf c.compared.now.files q) (prelude_q : q.prelude ≡ c.terms.prelude) (steps_q : q.steps ≡ c.terms.steps) (at_q : IsReached q n) where
+module _ (c : Change) (is : IsChange c) (n m : ℕ) (text : text_at c.compared.now.before n ≡ text_at c.compared.now.files n) (load_is : LoadsNow c n m) (s : SharesBy c n m) (p q : Plan) (plan_p : IsPlanOf c.compared.now.before p) (prelude_p : p.prelude ≡ c.terms.prelude) (mode_p : p.mode ≡ c.terms.mode) (at_p : IsReached p n) (plan_q : IsPlanOf c.compared.now.files q) (prelude_q : q.prelude ≡ c.terms.prelude) (mode_q : q.mode ≡ c.terms.mode) (at_q : IsReached q n) where
   same_read : read_of p n ≡ read_of q n
   same_read = one_reading c.compared.now.before c.compared.now.files c.terms.prelude n p q is.alike text plan_p prelude_p plan_q prelude_q at_p at_q
 
@@ -92,7 +93,7 @@ module _ (c : Change) (is : IsChange c) (n m : ℕ) (text : text_at c.compared.n
       same_read ∙ (one.1 ∙ ap Some same)
 
   loads_q : Contains (loaded q n) m
-  loads_q = subst (λ ns. Contains ns m) (loads_in_plans c.compared.now.files c.terms.prelude c.terms.steps n load_is.0 load_is.1 q plan_q prelude_q steps_q at_q) load_is.2
+  loads_q = subst (λ ns. Contains ns m) (loads_in_plans c.compared.now.files c.terms.prelude c.terms.mode n load_is.0 load_is.1 q plan_q prelude_q mode_q at_q) load_is.2
 
   loads_p : Contains (loaded p n) m
   loads_p = subst (λ r. Contains (map (λ (l : Load). l.file) (loads_in r)) m) (sym same_read) loads_q
@@ -110,21 +111,21 @@ module _ (c : Change) (is : IsChange c) (n m : ℕ) (text : text_at c.compared.n
   shares_loads = record {
     one = s.stores.before;
     other = s.stores.after;
-    own_one = s.own.before p plan_p prelude_p steps_p (load at_p loads_p);
-    own_other = s.own.after q plan_q prelude_q steps_q (load at_q loads_q);
+    own_one = s.own.before p plan_p prelude_p mode_p (load at_p loads_p);
+    own_other = s.own.after q plan_q prelude_q mode_q (load at_q loads_q);
     same = λ name l. (name_shared name l).same;
     as_data = λ name v l e. subst (λ k. same_data s.stores.before.cells s.stores.after.cells k most_levels v ≡ true) s.own.file ((name_shared name l).as_data v e);
   }
 
 pub shares_across : (c : Change) → IsChange c → (n m : ℕ) → text_at c.compared.now.before n ≡ text_at c.compared.now.files n → LoadsNow c n m → SharesBy c n m → SharesAcross c n m
-shares_across c is n m text load_is s p plan_p prelude_p steps_p at_p q plan_q prelude_q steps_q at_q = shares_loads c is n m text load_is s p q plan_p prelude_p steps_p at_p plan_q prelude_q steps_q at_q
+shares_across c is n m text load_is s p plan_p prelude_p mode_p at_p q plan_q prelude_q mode_q at_q = shares_loads c is n m text load_is s p q plan_p prelude_p mode_p at_p plan_q prelude_q mode_q at_q
 
 -- ---- marked files
 
-same : (before files : List File) (prelude : Option ℕ) (steps : ℕ) (marks : List Bool) → AreAlike before files prelude → AllLast before files prelude steps marks → HaveSame (is_marked marks) prelude before files
-same before files prelude steps marks alike last = record { labels = alike.labels; texts = λ n h. (last n h).text; prelude_text = alike.text }
+same : (before files : List File) (prelude : Option ℕ) (mode : Mode) (marks : List Bool) → AreAlike before files prelude → AllLast before files prelude mode marks → HaveSame (is_marked marks) prelude before files
+same before files prelude mode marks alike last = record { labels = alike.labels; texts = λ n h. (last n h).text; prelude_text = alike.text }
 
-module _ (before files : List File) (prelude : Option ℕ) (steps : ℕ) (marks : List Bool) (alike : AreAlike before files prelude) (last : AllLast before files prelude steps marks) (first : HasPreludeMarked prelude marks) (p q : Plan) (is : IsPlanOf before p) (at : p.prelude ≡ prelude) (paid : p.steps ≡ steps) (also : IsPlanOf files q) (too : q.prelude ≡ prelude) (within : q.steps ≡ steps) where
+module _ (before files : List File) (prelude : Option ℕ) (mode : Mode) (marks : List Bool) (alike : AreAlike before files prelude) (last : AllLast before files prelude mode marks) (first : HasPreludeMarked prelude marks) (p q : Plan) (is : IsPlanOf before p) (at : p.prelude ≡ prelude) (paid : p.mode ≡ mode) (also : IsPlanOf files q) (too : q.prelude ≡ prelude) (within : q.mode ≡ mode) where
   in_p : (n : ℕ) → InBoth (is_marked marks) p q n → IsReached p n
   in_p n b = (is.reached n).1 b.one
 
@@ -145,10 +146,10 @@ module _ (before files : List File) (prelude : Option ℕ) (steps : ℕ) (marks 
   loads n m b step =
       let l = last n b.within in
       let step_q : Loads (loaded q) n m = subst (λ r. Contains (map (λ (x : Load). x.file) (loads_in r)) m) (reads n b) step in
-      let among : Contains l.loads m = subst (λ ns. Contains ns m) (sym (loads_in_plans files prelude steps n l.loads l.are_loads q also too within (in_q n b))) step_q in
+      let among : Contains l.loads m = subst (λ ns. Contains ns m) (sym (loads_in_plans files prelude mode n l.loads l.are_loads q also too within (in_q n b))) step_q in
       turn step_q (l.each m among)
     where
-      turn : Loads (loaded q) n m → (is_marked marks m ≡ true) ⊎ ((r : Plan) → IsPlanOf before r → r.prelude ≡ prelude → r.steps ≡ steps → IsReached r n → InEachPlan files prelude steps n (λ s. SharesLoads r s n m)) → (both (is_marked marks) p q m ≡ true) ⊎ SharesLoads p q n m
+      turn : Loads (loaded q) n m → (is_marked marks m ≡ true) ⊎ ((r : Plan) → IsPlanOf before r → r.prelude ≡ prelude → r.mode ≡ mode → IsReached r n → InEachPlan files prelude mode n (λ s. SharesLoads r s n m)) → (both (is_marked marks) p q m ≡ true) ⊎ SharesLoads p q n m
       turn step_q (inl marked) = inl (here_too m marked (load (in_p n b) step) (load (in_q n b) step_q))
       turn step_q (inr shares) = inr (shares p is at paid (in_p n b) q also too within (in_q n b))
 
@@ -169,7 +170,7 @@ module _ (before files : List File) (prelude : Option ℕ) (steps : ℕ) (marks 
 
   agree : (n : ℕ) → InBoth (is_marked marks) p q n → (body : Body) → IsBody p n body → AgreeButFor (both (is_marked marks) p q) p q
   agree n b body good = record {
-    steps = paid ∙ sym within;
+    mode = paid ∙ sym within;
     prelude = at ∙ sym too;
     prelude_in = prelude_in n b body good;
     reads = λ k h. reads k (in_both (is_marked marks) p q k h);
@@ -193,15 +194,15 @@ module _ (before files : List File) (prelude : Option ℕ) (steps : ℕ) (marks 
       }
 
 -- an end that a marked file had before is its end now, but for the stores of other files
-pub ends_last : KeptResultsStay → (before files : List File) (prelude : Option ℕ) (steps : ℕ) (marks : List Bool) → AreAlike before files prelude → AllLast before files prelude steps marks → HasPreludeMarked prelude marks → (n : ℕ) (e s : GoodEnd) → is_marked marks n ≡ true → IsOutcome before prelude steps n e → s ≡ record e { is_stale = true } → IsEndNow files prelude steps n s
-ends_last law before files prelude steps marks alike last first n e s m o stale =
-    let loads = loads_stay before files prelude (is_marked marks) (same before files prelude steps marks alike last) n e.loads.items m o.loads in
+pub ends_last : KeptResultsStay → (before files : List File) (prelude : Option ℕ) (mode : Mode) (marks : List Bool) → AreAlike before files prelude → AllLast before files prelude mode marks → HasPreludeMarked prelude marks → (n : ℕ) (e s : GoodEnd) → is_marked marks n ≡ true → IsOutcome before prelude mode n e → s ≡ record e { is_stale = true } → IsEndNow files prelude mode n s
+ends_last law before files prelude mode marks alike last first n e s m o stale =
+    let loads = loads_stay before files prelude (is_marked marks) (same before files prelude mode marks alike last) n e.loads.items m o.loads in
     let run = o.run in
-    subst (IsEndNow files prelude steps n) (sym stale) (record {
+    subst (IsEndNow files prelude mode n) (sym stale) (record {
       loads = loads;
       end = λ q also too within reached. record {
-        loads = loads_in_plans files prelude steps n e.loads.items loads q also too within reached;
-        lasting = body_lasts before files prelude steps marks alike last first run.0 q run.1 run.2 run.3 also too within law n m run.4 reached (arc_value e.body) (o.body run.0 run.1 run.2 run.3 run.4);
+        loads = loads_in_plans files prelude mode n e.loads.items loads q also too within reached;
+        lasting = body_lasts before files prelude mode marks alike last first run.0 q run.1 run.2 run.3 also too within law n m run.4 reached (arc_value e.body) (o.body run.0 run.1 run.2 run.3 run.4);
         stores = λ fresh. absurd (let no : ⊥ = cc in no);
       };
     })
@@ -223,18 +224,18 @@ lasts_by c is marks n loads text are all = record {
   each = λ m at. subst (IsMarkedOrShared c marks n) at.2 (all at.0 m at.1);
 }
 
-still_lasts : (before files : List File) (prelude : Option ℕ) (steps : ℕ) (marks : List Bool) (n k : ℕ) → Lasts before files prelude steps marks k → Lasts before files prelude steps (slice_set marks n true) k
-still_lasts before files prelude steps marks n k l = record {
+still_lasts : (before files : List File) (prelude : Option ℕ) (mode : Mode) (marks : List Bool) (n k : ℕ) → Lasts before files prelude mode marks k → Lasts before files prelude mode (slice_set marks n true) k
+still_lasts before files prelude mode marks n k l = record {
   text = l.text;
   loads = l.loads;
   are_loads = l.are_loads;
   each = λ m at. by_cases (l.each m at) (λ h. inl (more_marked marks n m h)) (λ h. inr h);
 }
 
-pub one_lasts : (before files : List File) (prelude : Option ℕ) (steps : ℕ) (marks : List Bool) (n : ℕ) → AllLast before files prelude steps marks → Lasts before files prelude steps marks n → AllLast before files prelude steps (slice_set marks n true)
-one_lasts before files prelude steps marks n are l = λ k h. by_cases (same_or_not k n)
-    (λ e. subst (λ i. Lasts before files prelude steps (slice_set marks n true) i) (sym e) (still_lasts before files prelude steps marks n n l))
-    (λ ne. still_lasts before files prelude steps marks n k (are k (sym (get_or-set_other marks n k true false ne) ∙ h)))
+pub one_lasts : (before files : List File) (prelude : Option ℕ) (mode : Mode) (marks : List Bool) (n : ℕ) → AllLast before files prelude mode marks → Lasts before files prelude mode marks n → AllLast before files prelude mode (slice_set marks n true)
+one_lasts before files prelude mode marks n are l = λ k h. by_cases (same_or_not k n)
+    (λ e. subst (λ i. Lasts before files prelude mode (slice_set marks n true) i) (sym e) (still_lasts before files prelude mode marks n n l))
+    (λ ne. still_lasts before files prelude mode marks n k (are k (sym (get_or-set_other marks n k true false ne) ∙ h)))
 
 -- ---- stores
 
@@ -244,14 +245,14 @@ own_in_row plan n rs store are has =
     subst (λ (x : ReachView). IsOwn plan x.number x.store) has.2 (are.own has.0 r has.1).1
 
 -- the store of a file in its outcome is its own in each run
-own_in : (files : List File) (prelude : Option ℕ) (steps n : ℕ) (e : GoodEnd) (store : Published) → IsOutcome files prelude steps n e → HasStoreOf (row_of (arc_value e.body).stores) n store → InEachPlan files prelude steps n (λ plan. IsOwn plan n store)
-own_in files prelude steps n e store o has plan is at paid reached = own_in_row plan n (row_of (arc_value e.body).stores) store (o.body plan is at paid reached).stores has
+own_in : (files : List File) (prelude : Option ℕ) (mode : Mode) (n : ℕ) (e : GoodEnd) (store : Published) → IsOutcome files prelude mode n e → HasStoreOf (row_of (arc_value e.body).stores) n store → InEachPlan files prelude mode n (λ plan. IsOwn plan n store)
+own_in files prelude mode n e store o has plan is at paid reached = own_in_row plan n (row_of (arc_value e.body).stores) store (o.body plan is at paid reached).stores has
 
 pub stores_are : (c : Change) → IsChange c → (n : ℕ) (e f : GoodEnd) (one other : Published) → slice_get c.former.now n ≡ Some (Some e) → slice_get c.ends.now n ≡ Some (Some f) → HasStoreOf (row_of (arc_value e.body).stores) n one → HasStoreOf (row_of (arc_value f.body).stores) n other → AreStoresOf c n (record { file = n; before = one; after = other })
 stores_are c is n e f one other at too has also = record {
   file = refl;
-  before = own_in c.compared.now.before c.terms.prelude c.terms.steps n e one (is.former n e at) has;
-  after = own_in c.compared.now.files c.terms.prelude c.terms.steps n f other (is.ends n f too) also;
+  before = own_in c.compared.now.before c.terms.prelude c.terms.mode n e one (is.former n e at) has;
+  after = own_in c.compared.now.files c.terms.prelude c.terms.mode n f other (is.ends n f too) also;
 }
 
 pub one_more : (c : Change) (all : List (Option StoresView)) (n : ℕ) (o : Option StoresView) → AreAllStores c all → length all ≡ n → IfSome o (AreStoresOf c n) → AreAllStores c (all ++ o ∷ [])
@@ -274,10 +275,10 @@ more_stale marks former rest before now after n end marked among stale are fille
     let s : IsStaleOf rest n e = subst (λ o. IfSome o (IsStaleOf rest n)) h.1 stale in
     inr (subst (λ i. is_marked marks i ≡ true) (sym h.0) marked, (s.0, subst (λ i. slice_get former i ≡ Some (Some s.0)) (sym h.0) (among n s.0 s.1), s.2)))
 
-pub all_now : KeptResultsStay → (before files : List File) (prelude : Option ℕ) (steps : ℕ) (marks : List Bool) (former old new : List (Option GoodEnd)) → AreOrStale marks former old new → AreAlike before files prelude → AreOutcomes before prelude steps former → AreOutcomes files prelude steps old → AllLast before files prelude steps marks → HasPreludeMarked prelude marks → AreEndsNow files prelude steps new
-all_now law before files prelude steps marks former old new each alike are now last first k e at = by_cases (each k e at)
-    (λ h. outcome_now files prelude steps k e (now k e h))
-    (λ h. ends_last law before files prelude steps marks alike last first k h.1.0 e h.0 (are k h.1.0 h.1.1) h.1.2)
+pub all_now : KeptResultsStay → (before files : List File) (prelude : Option ℕ) (mode : Mode) (marks : List Bool) (former old new : List (Option GoodEnd)) → AreOrStale marks former old new → AreAlike before files prelude → AreOutcomes before prelude mode former → AreOutcomes files prelude mode old → AllLast before files prelude mode marks → HasPreludeMarked prelude marks → AreEndsNow files prelude mode new
+all_now law before files prelude mode marks former old new each alike are now last first k e at = by_cases (each k e at)
+    (λ h. outcome_now files prelude mode k e (now k e h))
+    (λ h. ends_last law before files prelude mode marks alike last first k h.1.0 e h.0 (are k h.1.0 h.1.1) h.1.2)
 
 -- whatever is there was there before, or is among these
 abbrev pub AreOrAmong : List (Option GoodEnd) → List (Option GoodEnd) → List (Option GoodEnd) → Type 0
@@ -290,5 +291,5 @@ more_among ends rest before now after n end among there are filled k e at = by_c
     (λ h. are k e h)
     (λ h. inr (among k e (subst (λ i. slice_get rest i ≡ Some (Some e)) (sym h.0) (subst (λ o. IfSome o (λ x. slice_get rest n ≡ Some (Some x))) h.1 there))))
 
-pub all_added : (ends old new : List (Option GoodEnd)) → AreOrAmong ends old new → (files : List File) (prelude : Option ℕ) (steps : ℕ) → AreOutcomes files prelude steps old → AreOutcomes files prelude steps ends → AreOutcomes files prelude steps new
-all_added ends old new each files prelude steps are too k e at = by_cases (each k e at) (λ h. are k e h) (λ h. too k e h)
+pub all_added : (ends old new : List (Option GoodEnd)) → AreOrAmong ends old new → (files : List File) (prelude : Option ℕ) (mode : Mode) → AreOutcomes files prelude mode old → AreOutcomes files prelude mode ends → AreOutcomes files prelude mode new
+all_added ends old new each files prelude mode are too k e at = by_cases (each k e at) (λ h. are k e h) (λ h. too k e h)

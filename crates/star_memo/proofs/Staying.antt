@@ -4,6 +4,7 @@ use Rattle.std.specs.Arc.{arc_value}
 use Rattle.std.specs.List.{list_all}
 use Rattle.std.specs.Prelude.{slice_set}
 use Rattle.std.proofs.lemmas.List.{get_or-set_other}
+use Rattle.star_dialect.specs.declared.Mode.{Mode}
 use Rattle.star_label.specs.Files.{File, IsOrdered, label_at, text_at}
 use Rattle.star_reading.proofs.Finds.{by_cases, same_or_not}
 use Rattle.star_cache.specs.State.{Loads}
@@ -36,8 +37,8 @@ one_of p ns n h c = one_at p ns n c.0 c.1 c.2 h
 same : (files others : List File) (prelude : Option ℕ) (all : List (Option GoodEnd)) (marks : List Bool) → HaveLabels files others → ((q : ℕ) → prelude ≡ Some q → text_at files q ≡ text_at others q) → AreStaying files others all marks → HaveSame (is_marked marks) prelude files others
 same files others prelude all marks l p h = record { labels = l; texts = λ n m. (h n m).text; prelude_text = p }
 
-closed : (files others : List File) (prelude : Option ℕ) (steps : ℕ) (all : List (Option GoodEnd)) (marks : List Bool) → AreOutcomes files prelude steps all → AreStaying files others all marks → IsClosed files prelude (is_marked marks)
-closed files others prelude steps all marks are h = λ n m.
+closed : (files others : List File) (prelude : Option ℕ) (mode : Mode) (all : List (Option GoodEnd)) (marks : List Bool) → AreOutcomes files prelude mode all → AreStaying files others all marks → IsClosed files prelude (is_marked marks)
+closed files others prelude mode all marks are h = λ n m.
     let s = h n m in (
       s.end.loads.items,
       (are n s.end s.kept).loads,
@@ -46,15 +47,15 @@ closed files others prelude steps all marks are h = λ n m.
 
 -- Whatever a marked file needs is marked, so all texts that it needs are as they were. In each plan of the files these
 -- are the texts of all files that it leads to by loads.
-pub texts_stay : (files others : List File) (prelude : Option ℕ) (steps : ℕ) (all : List (Option GoodEnd)) (marks : List Bool) → AreOutcomes files prelude steps all → AreStaying files others all marks
-    → (plan : Plan) → IsPlanOf files plan → plan.prelude ≡ prelude → plan.steps ≡ steps
+pub texts_stay : (files others : List File) (prelude : Option ℕ) (mode : Mode) (all : List (Option GoodEnd)) (marks : List Bool) → AreOutcomes files prelude mode all → AreStaying files others all marks
+    → (plan : Plan) → IsPlanOf files plan → plan.prelude ≡ prelude → plan.mode ≡ mode
     → (k n m : ℕ) → Walk (Loads (loaded plan)) k n m → IsReached plan n → is_marked marks n ≡ true → (is_marked marks m ≡ true) × (text_at files m ≡ text_at others m)
-texts_stay files others prelude steps all marks are h plan planned p s zero n m w reached marked = subst (λ i. (is_marked marks i ≡ true) × (text_at files i ≡ text_at others i)) w (marked, (h n marked).text)
-texts_stay files others prelude steps all marks are h plan planned p s (suc k) n m (u, first, rest) reached marked =
+texts_stay files others prelude mode all marks are h plan planned p s zero n m w reached marked = subst (λ i. (is_marked marks i ≡ true) × (text_at files i ≡ text_at others i)) w (marked, (h n marked).text)
+texts_stay files others prelude mode all marks are h plan planned p s (suc k) n m (u, first, rest) reached marked =
     let stay = h n marked in
-    let loads : stay.end.loads.items ≡ loaded plan n = loads_in_plans files prelude steps n stay.end.loads.items (are n stay.end stay.kept).loads plan planned p s reached in
+    let loads : stay.end.loads.items ≡ loaded plan n = loads_in_plans files prelude mode n stay.end.loads.items (are n stay.end stay.kept).loads plan planned p s reached in
     let among : Contains stay.end.loads.items u = subst (λ ns. Contains ns u) (sym loads) first in
-    texts_stay files others prelude steps all marks are h plan planned p s k u m rest (load reached first) (one_of (is_marked marks) stay.end.loads.items u stay.loads among)
+    texts_stay files others prelude mode all marks are h plan planned p s k u m rest (load reached first) (one_of (is_marked marks) stay.end.loads.items u stay.loads among)
 
 -- so they are closed among the files that take their place
 closed_too : (files others : List File) (prelude : Option ℕ) (is_in : ℕ → Bool) → HaveSame is_in prelude files others → IsClosed files prelude is_in → IsClosed others prelude is_in
@@ -62,50 +63,50 @@ closed_too files others prelude is_in s c = λ n h.
     let own_loads = c n h in (own_loads.0, loads_stay files others prelude is_in s n own_loads.0 h own_loads.1, own_loads.2)
 
 -- a run that reaches a marked file has one of the files that take their place
-run_stays : (files others : List File) (prelude : Option ℕ) (steps : ℕ) (is_in : ℕ → Bool) → HaveSame is_in prelude files others → IsClosed files prelude is_in → (n : ℕ) → is_in n ≡ true → HasRun files prelude steps n → HasRun others prelude steps n
-run_stays files others prelude steps is_in s c n m (p, is, at, paid, reached) =
+run_stays : (files others : List File) (prelude : Option ℕ) (mode : Mode) (is_in : ℕ → Bool) → HaveSame is_in prelude files others → IsClosed files prelude is_in → (n : ℕ) → is_in n ≡ true → HasRun files prelude mode n → HasRun others prelude mode n
+run_stays files others prelude mode is_in s c n m (p, is, at, paid, reached) =
     let back : HaveSame is_in p.prelude others files = subst (λ o. HaveSame is_in o others files) (sym at) (same_back is_in prelude files others s) in
     let again : IsClosed others p.prelude is_in = subst (λ o. IsClosed others o is_in) (sym at) (closed_too files others prelude is_in s c) in
     let one = (is.reached n).0 reached in
     (own is_in p, own_is others files p is_in is back again, at, paid, root_there is_in p n one.0 (to_common is_in p n m ∙ one.1))
 
-stays : (files others : List File) (prelude : Option ℕ) (steps : ℕ) (all : List (Option GoodEnd)) (marks : List Bool) → IsOrdered files → HaveLabels files others → ((q : ℕ) → prelude ≡ Some q → text_at files q ≡ text_at others q) → AreOutcomes files prelude steps all → AreStaying files others all marks → (n : ℕ) (e : GoodEnd) → is_marked marks n ≡ true → slice_get all n ≡ Some (Some e) → IsOutcome others prelude steps n e
-stays files others prelude steps all marks ordered l p are h n e m k =
+stays : (files others : List File) (prelude : Option ℕ) (mode : Mode) (all : List (Option GoodEnd)) (marks : List Bool) → IsOrdered files → HaveLabels files others → ((q : ℕ) → prelude ≡ Some q → text_at files q ≡ text_at others q) → AreOutcomes files prelude mode all → AreStaying files others all marks → (n : ℕ) (e : GoodEnd) → is_marked marks n ≡ true → slice_get all n ≡ Some (Some e) → IsOutcome others prelude mode n e
+stays files others prelude mode all marks ordered l p are h n e m k =
     let s = same files others prelude all marks l p h in
-    let c = closed files others prelude steps all marks are h in
+    let c = closed files others prelude mode all marks are h in
     let o = are n e k in
     record {
       loads = loads_stay files others prelude (is_marked marks) s n e.loads.items m o.loads;
-      body = bodies_stay (arc_value e.body) files others prelude steps (is_marked marks) ordered s c n m o.body;
-      run = run_stays files others prelude steps (is_marked marks) s c n m o.run;
+      body = bodies_stay (arc_value e.body) files others prelude mode (is_marked marks) ordered s c n m o.body;
+      run = run_stays files others prelude mode (is_marked marks) s c n m o.run;
       fresh = o.fresh;
     }
 
 -- the outcomes that are left stay right if the files change so
-pub all_stay : (files others : List File) (prelude : Option ℕ) (steps : ℕ) (before after : List (Option GoodEnd)) (marks : List Bool) → IsOrdered files → HaveLabels files others → ((q : ℕ) → prelude ≡ Some q → text_at files q ≡ text_at others q) → AreOutcomes files prelude steps before → AreStaying files others before marks → AreMarkedOf marks before after → AreOutcomes others prelude steps after
-all_stay files others prelude steps before after marks ordered l p are h of = λ n e k.
-    let o = of n e k in stays files others prelude steps before marks ordered l p are h n e o.0 o.1
+pub all_stay : (files others : List File) (prelude : Option ℕ) (mode : Mode) (before after : List (Option GoodEnd)) (marks : List Bool) → IsOrdered files → HaveLabels files others → ((q : ℕ) → prelude ≡ Some q → text_at files q ≡ text_at others q) → AreOutcomes files prelude mode before → AreStaying files others before marks → AreMarkedOf marks before after → AreOutcomes others prelude mode after
+all_stay files others prelude mode before after marks ordered l p are h of = λ n e k.
+    let o = of n e k in stays files others prelude mode before marks ordered l p are h n e o.0 o.1
 
 -- an outcome is an end as it is now
-pub outcome_now : (files : List File) (prelude : Option ℕ) (steps n : ℕ) (e : GoodEnd) → IsOutcome files prelude steps n e → IsEndNow files prelude steps n e
-outcome_now files prelude steps n e o = record {
+pub outcome_now : (files : List File) (prelude : Option ℕ) (mode : Mode) (n : ℕ) (e : GoodEnd) → IsOutcome files prelude mode n e → IsEndNow files prelude mode n e
+outcome_now files prelude mode n e o = record {
   loads = o.loads;
-  end = λ plan planned p s reached. good_by plan n e (loads_in_plans files prelude steps n e.loads.items o.loads plan planned p s reached) (o.body plan planned p s reached);
+  end = λ plan planned p s reached. good_by plan n e (loads_in_plans files prelude mode n e.loads.items o.loads plan planned p s reached) (o.body plan planned p s reached);
 }
 
-pub outcomes_now : (files : List File) (prelude : Option ℕ) (steps : ℕ) (all : List (Option GoodEnd)) → AreOutcomes files prelude steps all → AreEndsNow files prelude steps all
-outcomes_now files prelude steps all are = λ n e k. outcome_now files prelude steps n e (are n e k)
+pub outcomes_now : (files : List File) (prelude : Option ℕ) (mode : Mode) (all : List (Option GoodEnd)) → AreOutcomes files prelude mode all → AreEndsNow files prelude mode all
+outcomes_now files prelude mode all are = λ n e k. outcome_now files prelude mode n e (are n e k)
 
 -- ends as they are now are good ends in each plan of the files, whatever its roots
-pub ends_of_now : (files : List File) (roots : List ℕ) (prelude : Option ℕ) (steps : ℕ) (all : List (Option GoodEnd)) → AreEndsNow files prelude steps all → AreGoodEndsOf files roots prelude steps all
-ends_of_now files roots prelude steps all are = λ plan planned r p s n e k reached. (are n e k).end plan planned p s reached
+pub ends_of_now : (files : List File) (roots : List ℕ) (prelude : Option ℕ) (mode : Mode) (all : List (Option GoodEnd)) → AreEndsNow files prelude mode all → AreGoodEndsOf files roots prelude mode all
+ends_of_now files roots prelude mode all are = λ plan planned r p s n e k reached. (are n e k).end plan planned p s reached
 
 -- so are outcomes
-pub ends_of : (files : List File) (roots : List ℕ) (prelude : Option ℕ) (steps : ℕ) (all : List (Option GoodEnd)) → AreOutcomes files prelude steps all → AreGoodEndsOf files roots prelude steps all
-ends_of files roots prelude steps all are = ends_of_now files roots prelude steps all (outcomes_now files prelude steps all are)
+pub ends_of : (files : List File) (roots : List ℕ) (prelude : Option ℕ) (mode : Mode) (all : List (Option GoodEnd)) → AreOutcomes files prelude mode all → AreGoodEndsOf files roots prelude mode all
+ends_of files roots prelude mode all are = ends_of_now files roots prelude mode all (outcomes_now files prelude mode all are)
 
 -- the good ends that a run leaves are outcomes of the files, whatever its roots were
-pub left_by : (files : List File) (plan : Plan) (all : List (Option GoodEnd)) → IsOrdered files → IsPlanOf files plan → AreReachedEnds plan all → AreOutcomes files plan.prelude plan.steps all
+pub left_by : (files : List File) (plan : Plan) (all : List (Option GoodEnd)) → IsOrdered files → IsPlanOf files plan → AreReachedEnds plan all → AreOutcomes files plan.prelude plan.mode all
 left_by files plan all ordered planned are = λ n e k.
     let o = are n e k in
     record {

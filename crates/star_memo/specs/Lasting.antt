@@ -2,6 +2,7 @@
 use Rattle.std.specs.Prelude.{◌≡◌, ◌⊎◌, ℕ, nat_eq, Bool, true, List, Option, Some, Contains, slice_get}
 use Rattle.std.specs.List.{find}
 use Rattle.std.specs.Option.{option_map}
+use Rattle.star_dialect.specs.declared.Mode.{Mode}
 use Rattle.star_label.specs.Files.{File, text_at}
 use Rattle.star_scope.specs.declared.loads.Load.{Load}
 use Rattle.star_store.specs.declared.values.Value.{Value}
@@ -22,22 +23,22 @@ use Rattle.star_memo.specs.declared.outcomes.Terms.{Terms}
 
 -- ---- ends as they are now
 
--- this is the good end of the file n, which may be stale, in each run of these files with this prelude and these steps,
+-- this is the good end of the file n, which may be stale, in each run of these files with this prelude and this mode,
 -- whatever the roots; and these are the files that it loads
-pub record IsEndNow (files : List File) (prelude : Option ℕ) (steps n : ℕ) (e : GoodEnd) : Type 0 where
+pub record IsEndNow (files : List File) (prelude : Option ℕ) (mode : Mode) (n : ℕ) (e : GoodEnd) : Type 0 where
   pub loads : AreLoadsUnder files prelude n e.loads.items
-  pub end : InEachPlan files prelude steps n (λ plan. IsGoodEnd plan n e)
+  pub end : InEachPlan files prelude mode n (λ plan. IsGoodEnd plan n e)
 
 -- so it is with whatever is there for a file, by its number
-abbrev pub AreEndsNow : List File → Option ℕ → ℕ → List (Option GoodEnd) → Type 0
-AreEndsNow files prelude steps all =
-    (n : ℕ) (e : GoodEnd) → slice_get all n ≡ Some (Some e) → IsEndNow files prelude steps n e
+abbrev pub AreEndsNow : List File → Option ℕ → Mode → List (Option GoodEnd) → Type 0
+AreEndsNow files prelude mode all =
+    (n : ℕ) (e : GoodEnd) → slice_get all n ≡ Some (Some e) → IsEndNow files prelude mode n e
 
 -- if two rows are outcomes of some files, so is a third
 abbrev pub AreJoined : List (Option GoodEnd) → List (Option GoodEnd) → List (Option GoodEnd) → Type 0
 AreJoined one other all =
-    (files : List File) (prelude : Option ℕ) (steps : ℕ) → AreOutcomes files prelude steps one
-    → AreOutcomes files prelude steps other → AreOutcomes files prelude steps all
+    (files : List File) (prelude : Option ℕ) (mode : Mode) → AreOutcomes files prelude mode one
+    → AreOutcomes files prelude mode other → AreOutcomes files prelude mode all
 
 -- ---- what is shared
 
@@ -71,24 +72,24 @@ AreShared s loads xs =
     (at : ℕ) (x : Statement) (name : List ℕ) → slice_get xs at ≡ Some x → LoadsIt loads s.file x name → IsShared s name
 
 -- in a run of the files before and a run of the files after, which both reach the file n, it shares what it loads of m
-abbrev pub SharesIn : List File → List File → Option ℕ → ℕ → ℕ → ℕ → Type 0
-SharesIn before files prelude steps n m =
-    InEachPlan before prelude steps n (λ p. InEachPlan files prelude steps n (λ q. SharesLoads p q n m))
+abbrev pub SharesIn : List File → List File → Option ℕ → Mode → ℕ → ℕ → Type 0
+SharesIn before files prelude mode n m =
+    InEachPlan before prelude mode n (λ p. InEachPlan files prelude mode n (λ q. SharesLoads p q n m))
 
 -- ---- which ends last
 
 -- the file n has the same text, and each file that it loads is marked or shares with it
-pub record Lasts (before files : List File) (prelude : Option ℕ) (steps : ℕ) (marks : List Bool) (n : ℕ) : Type 0 where
+pub record Lasts (before files : List File) (prelude : Option ℕ) (mode : Mode) (marks : List Bool) (n : ℕ) : Type 0 where
   pub text : text_at before n ≡ text_at files n
   pub loads : List ℕ
   pub are_loads : AreLoadsUnder files prelude n loads
-  pub each : (m : ℕ) → Contains loads m → (is_marked marks m ≡ true) ⊎ SharesIn before files prelude steps n m
+  pub each : (m : ℕ) → Contains loads m → (is_marked marks m ≡ true) ⊎ SharesIn before files prelude mode n m
 
 -- so it is with all marked files. Then an end that one of them had before is its end now, but for the stores of other
 -- files: `ends_last` of `proofs/EndsLast`
-abbrev pub AllLast : List File → List File → Option ℕ → ℕ → List Bool → Type 0
-AllLast before files prelude steps marks =
-    (n : ℕ) → is_marked marks n ≡ true → Lasts before files prelude steps marks n
+abbrev pub AllLast : List File → List File → Option ℕ → Mode → List Bool → Type 0
+AllLast before files prelude mode marks =
+    (n : ℕ) → is_marked marks n ≡ true → Lasts before files prelude mode marks n
 
 -- the prelude, if there is one, is marked if any file is
 abbrev pub HasPreludeMarked : Option ℕ → List Bool → Type 0
@@ -101,15 +102,15 @@ HasPreludeMarked prelude marks =
 -- the readings are of the files after
 pub record IsChange (c : Change) : Type 0 where
   pub alike : AreAlike c.compared.now.before c.compared.now.files c.terms.prelude
-  pub former : AreOutcomes c.compared.now.before c.terms.prelude c.terms.steps c.former.now
-  pub ends : AreOutcomes c.compared.now.files c.terms.prelude c.terms.steps c.ends.now
+  pub former : AreOutcomes c.compared.now.before c.terms.prelude c.terms.mode c.former.now
+  pub ends : AreOutcomes c.compared.now.files c.terms.prelude c.terms.mode c.ends.now
   pub reads : AreKnown c.compared.now.files c.terms.prelude c.reads.now
 
 -- these are the stores of the file n before and after the change: in each run that reaches it they are its own
 pub record AreStoresOf (c : Change) (n : ℕ) (s : StoresView) : Type 0 where
   pub file : s.file ≡ n
-  pub before : InEachPlan c.compared.now.before c.terms.prelude c.terms.steps n (λ plan. IsOwn plan n s.before)
-  pub after : InEachPlan c.compared.now.files c.terms.prelude c.terms.steps n (λ plan. IsOwn plan n s.after)
+  pub before : InEachPlan c.compared.now.before c.terms.prelude c.terms.mode n (λ plan. IsOwn plan n s.before)
+  pub after : InEachPlan c.compared.now.files c.terms.prelude c.terms.mode n (λ plan. IsOwn plan n s.after)
 
 -- so it is with whatever is there for a file, by its number
 abbrev pub AreAllStores : Change → List (Option StoresView) → Type 0
@@ -121,7 +122,7 @@ LoadsNow c n m = (loads : List ℕ) × AreLoadsUnder c.compared.now.files c.term
 
 -- the file n shares what it loads of m in each run before and each run after the change
 abbrev pub SharesAcross : Change → ℕ → ℕ → Type 0
-SharesAcross c n m = SharesIn c.compared.now.before c.compared.now.files c.terms.prelude c.terms.steps n m
+SharesAcross c n m = SharesIn c.compared.now.before c.compared.now.files c.terms.prelude c.terms.mode n m
 
 -- the file m is marked, or the file n shares what it loads of m
 abbrev pub IsMarkedOrShared : Change → List Bool → ℕ → ℕ → Type 0
@@ -129,11 +130,11 @@ IsMarkedOrShared c marks n m = (is_marked marks m ≡ true) ⊎ SharesAcross c n
 
 -- the end of the file n lasts over the change, if those of the marked files do
 abbrev pub LastsOver : Change → List Bool → ℕ → Type 0
-LastsOver c marks n = Lasts c.compared.now.before c.compared.now.files c.terms.prelude c.terms.steps marks n
+LastsOver c marks n = Lasts c.compared.now.before c.compared.now.files c.terms.prelude c.terms.mode marks n
 
 -- so it is with all marked files
 abbrev pub AllLastOver : Change → List Bool → Type 0
-AllLastOver c marks = AllLast c.compared.now.before c.compared.now.files c.terms.prelude c.terms.steps marks
+AllLastOver c marks = AllLast c.compared.now.before c.compared.now.files c.terms.prelude c.terms.mode marks
 
 -- ---- ends that are added
 
@@ -153,6 +154,6 @@ IsStaleOf ends n s =
 abbrev pub AreAddedTo : Terms → List Bool → List (Option GoodEnd) → List (Option GoodEnd) → List (Option GoodEnd) → Type 0
 AreAddedTo terms marks former ends all =
     (before files : List File) → AreAlike before files terms.prelude
-    → AreOutcomes before terms.prelude terms.steps former → AreOutcomes files terms.prelude terms.steps ends
-    → AllLast before files terms.prelude terms.steps marks → HasPreludeMarked terms.prelude marks
-    → AreEndsNow files terms.prelude terms.steps all
+    → AreOutcomes before terms.prelude terms.mode former → AreOutcomes files terms.prelude terms.mode ends
+    → AllLast before files terms.prelude terms.mode marks → HasPreludeMarked terms.prelude marks
+    → AreEndsNow files terms.prelude terms.mode all

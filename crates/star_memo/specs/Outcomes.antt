@@ -2,6 +2,7 @@
 use Rattle.std.specs.Prelude.{◌≡◌, ℕ, Bool, true, false, List, Option, Some, map, slice_get, slice_index_or}
 use Rattle.std.specs.List.{list_all}
 use Rattle.std.specs.Arc.{arc_value}
+use Rattle.star_dialect.specs.declared.Mode.{Mode}
 use Rattle.star_label.specs.Files.{File, IsOrdered, text_at}
 use Rattle.star_plan.specs.Plan.{Plan}
 use Rattle.star_plan.specs.Reached.{IsReached}
@@ -9,23 +10,23 @@ use Rattle.star_plan.specs.Reading.{IsPlanOf}
 use Rattle.star_outcome.specs.declared.good_end.GoodEnd.{GoodEnd}
 use Rattle.star_needs.specs.Ends.{AreLoadsUnder, IsBodyUnder}
 
--- a run of these files with this prelude and these steps reaches the file n
-abbrev pub HasRun : List File → Option ℕ → ℕ → ℕ → Type 0
-HasRun files prelude steps n =
-    (plan : Plan) × IsPlanOf files plan × (plan.prelude ≡ prelude) × (plan.steps ≡ steps) × IsReached plan n
+-- a run of these files with this prelude and this mode reaches the file n
+abbrev pub HasRun : List File → Option ℕ → Mode → ℕ → Type 0
+HasRun files prelude mode n =
+    (plan : Plan) × IsPlanOf files plan × (plan.prelude ≡ prelude) × (plan.mode ≡ mode) × IsReached plan n
 
 -- this is the outcome of the file n: the files that it loads, and the body with which it ends in each run of these files
--- with this prelude and these steps, whatever the roots. There is such a run, and the outcome is not stale
-pub record IsOutcome (files : List File) (prelude : Option ℕ) (steps n : ℕ) (e : GoodEnd) : Type 0 where
+-- with this prelude and this mode, whatever the roots. There is such a run, and the outcome is not stale
+pub record IsOutcome (files : List File) (prelude : Option ℕ) (mode : Mode) (n : ℕ) (e : GoodEnd) : Type 0 where
   pub loads : AreLoadsUnder files prelude n e.loads.items
-  pub body : IsBodyUnder files prelude steps n (arc_value e.body)
-  pub run : HasRun files prelude steps n
+  pub body : IsBodyUnder files prelude mode n (arc_value e.body)
+  pub run : HasRun files prelude mode n
   pub fresh : e.is_stale ≡ false
 
 -- whatever is kept for a file, by its number, is its outcome
-abbrev pub AreOutcomes : List File → Option ℕ → ℕ → List (Option GoodEnd) → Type 0
-AreOutcomes files prelude steps all =
-    (n : ℕ) (e : GoodEnd) → slice_get all n ≡ Some (Some e) → IsOutcome files prelude steps n e
+abbrev pub AreOutcomes : List File → Option ℕ → Mode → List (Option GoodEnd) → Type 0
+AreOutcomes files prelude mode all =
+    (n : ℕ) (e : GoodEnd) → slice_get all n ≡ Some (Some e) → IsOutcome files prelude mode n e
 
 abbrev pub is_marked : List Bool → ℕ → Bool
 is_marked marks n = slice_index_or marks n false

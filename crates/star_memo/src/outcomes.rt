@@ -1,6 +1,6 @@
 //! The outcomes of files that ended well, which are kept from one request to the next.
 //!
-//! An outcome stays if the labels, the prelude and the steps stay, and the texts of the prelude, of the file itself and
+//! An outcome stays if the labels, the prelude and the mode stay, and the texts of the prelude, of the file itself and
 //! of all files that it needs. These are found along the loads, from the files that load nothing.
 
 ghost use Rattle.std.specs.Prelude.{◌≡◌, ◌≢◌, ◌<◌, ◌≤◌, ℕ, [], true, IfOk, IfSome, OnOk, Some, length, slice_get, vec_len};
@@ -13,6 +13,7 @@ ghost use Rattle.star_memo.specs.Readings.{HasPrelude};
 
 use crate::compared::Compared;
 use crate::release::{VALUES_FOR_THREADS, free, free_apart};
+use star_dialect::Mode;
 use star_flow::{Flow, Graph};
 use star_outcome::good_end::GoodEnd;
 use std::alloc::{AllocError, Global};
@@ -26,12 +27,12 @@ pub struct Outcomes {
     pub terms: Terms,
 }
 
-/// The values that the outcomes of files depend on, beside their texts: the number of the prelude, and the steps that
-/// each file may take.
+/// The values that the outcomes of files depend on, beside their texts: the number of the prelude, and the mode in which
+/// each file runs.
 #[derive(Clone, Copy, Debug, PartialEq, Eq)]
 pub struct Terms {
     pub prelude: Option<usize>,
-    pub steps: u32,
+    pub mode: Mode,
 }
 
 /// Whether all files have the same texts before and after the change.
@@ -237,11 +238,11 @@ impl Outcomes {
         terms: Terms,
         threads: usize,
     ) -> Result<(Outcomes, Vec<Option<GoodEnd>>), AllocError>
-        requires outcomes { AreOutcomes compared.now.before self.terms.prelude self.terms.steps self.all.items }
+        requires outcomes { AreOutcomes compared.now.before self.terms.prelude self.terms.mode self.all.items }
         requires threads { 1 ≤ threads }
         ensures terms { IfOk result (λ os. os.0.terms ≡ terms) }
-        ensures all { IfOk result (λ os. AreOutcomes compared.now.files terms.prelude terms.steps os.0.all.items) }
-        ensures others { IfOk result (λ os. AreOutcomes compared.now.before terms.prelude terms.steps os.1.items) }
+        ensures all { IfOk result (λ os. AreOutcomes compared.now.files terms.prelude terms.mode os.0.all.items) }
+        ensures others { IfOk result (λ os. AreOutcomes compared.now.before terms.prelude terms.mode os.1.items) }
         ensures alike { IfOk result (λ os.
             0 < length os.1.items → AreAlike compared.now.before compared.now.files terms.prelude) }
         ensures same { IfOk result (λ os. compared.now.before ≡ compared.now.files → self.terms ≡ terms

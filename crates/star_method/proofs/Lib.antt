@@ -3,6 +3,7 @@ pub mod Cutting
 pub mod EqualPlaces
 pub mod Finds
 pub mod Found
+pub mod Given
 pub mod Joining
 pub mod Letters
 pub mod OneByOne

@@ -19,4 +19,5 @@ mod characters;
 pub mod dicts;
 pub mod lists;
 pub mod split;
+pub mod table;
 pub mod texts;

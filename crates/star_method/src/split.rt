@@ -19,6 +19,7 @@ use star_machine::setting::Setting;
 use star_meaning::fault::FaultCode;
 use star_store::values::{Value, Values};
 use star_text::Text;
+use star_visit::draft::Draft;
 use std::alloc::{AllocError, Global};
 
 /// Whether a cut may still be made; `None` is no limit.
@@ -114,29 +115,31 @@ pub fn call_split(machine: &mut Machine, text: Value, call: &Call) -> Result<Val
     machine.new_list(call.line, parts)
 }
 
-/// A string with another one in the place of each separator: at most `cuts` times, from the left.
+/// A string with another one in the place of each separator: at most `cuts` times, from the left. It is a draft, in
+/// which the other string is copied only if it is short or `room` is left.
 #[tactic(auto, using(crate::proofs::Cutting::joined_next))]
 fn replaced(
     alloc: Global,
     text: &str,
     old: &str,
-    new: &str,
+    new: &Text,
     cuts: Option<u64>,
-) -> Result<Text, AllocError>
+    room: usize,
+) -> Result<Draft, AllocError>
     requires { 0 < length old.now }
     ensures { IfOk result (λ t. t ≡ joined new.now (texts.parts text.now old.now cuts)) }
 {
-    let mut made = String::new(alloc);
+    let mut made = Draft::new(alloc, room);
     let mut rest = text;
     let mut left = cuts;
     while let Some((before, after)) = next_cut(rest, old, left) {
-        made.push_str(before)?;
-        made.push_str(new)?;
+        made.say(before)?;
+        made.put(new)?;
         rest = after;
         left = one_less(left);
     }
-    made.push_str(rest)?;
-    Text::of(made)
+    made.say(rest)?;
+    Ok(made)
 }
 
 /// Two or three values. `Args` for fewer or more, and for a keyword argument.
@@ -154,7 +157,8 @@ fn two_or_three(machine: &Machine, call: &Call) -> Result<(Value, Value, Option<
 }
 
 /// `replace(old, new, [n])`: the bytes are paid, then a new string with `new` in the place of each `old`, of `n` at
-/// most. `BadType` for arguments of other types, `BadValue` for an empty `old`.
+/// most. `BadType` for arguments of other types, `BadValue` for an empty `old`. The new string is built only if it can
+/// be paid.
 pub fn call_replace(machine: &mut Machine, text: Value, call: &Call) -> Result<Value, EvalError>
     // It is long since it names each argument of the definition.
     ensures { Refines (spec.call_replace call.now.setting.now call.now.line
@@ -175,8 +179,9 @@ pub fn call_replace(machine: &mut Machine, text: Value, call: &Call) -> Result<V
         machine.alloc(),
         whole.as_str(),
         old.as_str(),
-        new.as_str(),
+        &new,
         cuts,
+        machine.steps_left() as usize,
     )?;
-    machine.new_text(call.line, made)
+    machine.new_draft(call.line, made)
 }

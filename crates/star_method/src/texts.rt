@@ -1,9 +1,9 @@
 //! The other methods of strings, but for `format`.
 //!
-//! A string method makes its text before its payment, so a machine short of memory may say so when the definition
-//! answers `steps`. `strip`, `lstrip` and `rstrip` are one function.
+//! A string method that makes no more than its string has makes its text before its payment, so a machine short of
+//! memory may say so when the definition answers `steps`; `join` builds its text only if it can be paid. `strip`, `lstrip` and `rstrip` are one function.
 
-ghost use Rattle.std.specs.Prelude.{◌≡◌, ◌≤◌, ◌++◌, if◌then◌else◌, IfOk, OnOk, is_some, length, map, pos, string_bytes};
+ghost use Rattle.std.specs.Prelude.{◌≡◌, ◌≤◌, ◌++◌, if◌then◌else◌, IfOk, OnOk, is_some, length, map, pos};
 ghost use Rattle.std.specs.List.{list_any};
 ghost use Rattle.star_meaning.specs.Arguments.{positional};
 ghost use Rattle.star_meaning.specs.BuiltIns.{joined};
@@ -28,6 +28,7 @@ use star_machine::texts::place_between;
 use star_meaning::fault::FaultCode;
 use star_store::values::{Cell, Value};
 use star_text::Text;
+use star_visit::draft::Draft;
 use std::alloc::AllocError;
 
 /// Pays the bytes of a string.
@@ -197,7 +198,7 @@ fn is_text(machine: &Machine, setting: &Setting, value: Value) -> bool
 
 /// Whether all values are strings.
 #[tactic(auto, using(crate::proofs::Choices::some_more, crate::proofs::Choices::none_more))]
-fn are_texts(machine: &Machine, setting: &Setting, values: &[Value]) -> bool
+pub fn are_texts(machine: &Machine, setting: &Setting, values: &[Value]) -> bool
     ensures { result ≡ is_some (spec.texts_of setting.now machine.now values.now) }
 {
     for value in values {
@@ -370,42 +371,43 @@ pub fn call_strip(
     machine.new_text(call.line, made)
 }
 
-/// Puts strings after a text, each after another string.
+/// Puts strings after a draft, each after another string.
 fn push_each(
     machine: &Machine,
     setting: &Setting,
-    made: &mut String,
-    by: &str,
+    made: &mut Draft,
+    by: &Text,
     texts: &[Value],
 ) -> Result<(), AllocError>
-    ensures { OnOk result (string_bytes made.new ≡ string_bytes made.old
+    ensures { OnOk result (made.new ≡ made.old
         ++ each_after by.now (bytes_each setting.now machine.now texts.now)) }
 {
     for text in texts {
         let text = machine.copied_text(setting, *text)?;
-        made.push_str(by)?;
-        made.push_str(text.as_str())?;
+        made.put(by)?;
+        made.put(&text)?;
     }
     Ok(())
 }
 
-/// Strings with another one between them.
+/// Strings with another one between them, as a draft in which no more long strings are copied than there are steps.
 #[tactic(auto, using(crate::proofs::Joining::joined_is))]
 fn joined_texts(
     machine: &Machine,
     setting: &Setting,
-    by: &str,
+    by: &Text,
     texts: &[Value],
-) -> Result<Text, AllocError>
+) -> Result<Draft, AllocError>
     ensures { IfOk result (λ t. t ≡ joined by.now (bytes_each setting.now machine.now texts.now)) }
 {
     let Some((first, rest)) = texts.split_first() else {
-        return Text::new(machine.alloc(), "");
+        return Ok(Draft::new(machine.alloc(), 0));
     };
+    let mut made = Draft::new(machine.alloc(), machine.steps_left() as usize);
     let text = machine.copied_text(setting, *first)?;
-    let mut made = String::from_str(machine.alloc(), text.as_str())?;
+    made.put(&text)?;
     push_each(machine, setting, &mut made, by, rest)?;
-    Text::of(made)
+    Ok(made)
 }
 
 /// The strings that values are, with another one between them. `BadType` if one of them is not a string.
@@ -414,9 +416,9 @@ fn join_all(
     machine: &Machine,
     setting: &Setting,
     line: usize,
-    by: &str,
+    by: &Text,
     texts: &[Value],
-) -> Result<Text, EvalError>
+) -> Result<Draft, EvalError>
     ensures { Refines (joined_by setting.now line by.now texts.now machine.now) result machine.now }
 {
     if !are_texts(machine, setting, texts) {
@@ -426,7 +428,7 @@ fn join_all(
 }
 
 /// `join(it)`: the bytes are paid, then all items are taken, then a new string of them, with this one between them.
-/// `BadType` if `it` is not iterable, and if an item is not a string.
+/// `BadType` if `it` is not iterable, and if an item is not a string. The new string is built only if it can be paid.
 pub fn call_join(machine: &mut Machine, text: Value, call: &Call) -> Result<Value, EvalError>
     // It is long since it names each argument of the definition.
     ensures { Refines (spec.call_join call.now.setting.now call.now.line
@@ -437,12 +439,6 @@ pub fn call_join(machine: &mut Machine, text: Value, call: &Call) -> Result<Valu
     let by = machine.copied_text(call.setting, text)?;
     pay_for_bytes(machine, call.setting, call.line, text)?;
     let taken = machine.take_items(call.setting, call.line, items, count)?;
-    let made = join_all(
-        machine,
-        call.setting,
-        call.line,
-        by.as_str(),
-        taken.as_slice(),
-    )?;
-    machine.new_text(call.line, made)
+    let made = join_all(machine, call.setting, call.line, &by, taken.as_slice())?;
+    machine.new_draft(call.line, made)
 }

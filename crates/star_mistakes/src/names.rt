@@ -1,24 +1,29 @@
 //! Misplaced statements, conflicts of names, bad loads and undefined names, each with its token.
 //!
-//! The resolver returns the first fault of a file with its line. Here each fault gets its token. Those of loads,
-//! conflicts and statements come from the walks of the resolver itself. For undefined names the file is resolved once
-//! more, with a prelude that has all of its names: undefined are those that only this prelude has.
+//! The resolver returns the first fault of a file with its line. Here each fault gets its token. All come from the walks
+//! of the resolver itself, one for each kind of fault, so that none hides another. For undefined names the names of the
+//! file are bound once more beside a prelude that has all of its words: undefined are those that only this prelude has.
 
 ghost use Rattle.std.specs.Prelude.{◌<◌, length};
 
 use crate::place::word_of;
 use star_label::files::Files;
 use star_lex::token::{Keyword, Kind, Token};
-use star_parser::parse;
+use star_outline::blocks::{BlockNames, Blocks};
+use star_outline::names::{add_statements, load_statements};
+use star_outline::outline::{Definitions, Found as Outline, find_in_statements};
 use star_scope::conflicts::block_conflict;
 use star_scope::error::{LocatedFault, ScopeFault};
 use star_scope::loads::find_loads;
 use star_scope::placement::misplaced;
-use star_scope::program::{Prelude, Program, resolve};
+use star_scope::program::{Prelude, resolve};
 use star_scope::spot::Spot;
-use star_tree::tree::Tree;
+use star_scope::spots::Spots;
+use star_scope::uses::resolve_names;
+use star_tree::tree::{Statement, Tree};
 use std::alloc::{AllocError, Global};
 use std::collections::BTreeSet;
+use std::slice;
 
 /// The names of the outermost block.
 const BUILT_INS: [&str; 24] = [
@@ -113,16 +118,30 @@ fn may_stand_at(fault: ScopeFault, kind: Kind) -> bool {
 }
 
 impl<'a> Source<'a> {
-    /// A text that binds each name of the file.
-    fn bindings(self) -> Result<String, AllocError> {
-        let mut all = String::new(self.alloc);
+    /// A block that binds each name of the file.
+    fn words(self) -> Result<BlockNames<'a>, AllocError> {
+        let mut all = BlockNames::new(self.alloc);
         for token in self.tokens {
             if token.kind == Kind::Name {
-                all.push_str(word_of(self.text, token))?;
-                all.push_str(" = 0\n")?;
+                all.add(word_of(self.text, token))?;
             }
         }
         Ok(all)
+    }
+
+    /// The blocks of the file: its own is the first.
+    fn blocks(self) -> Result<Blocks<'a>, AllocError> {
+        let statements = self.tree.statements.as_slice();
+        let mut names = BlockNames::new(self.alloc);
+        add_statements(&mut names, statements)?;
+        load_statements(&mut names, statements)?;
+        let mut outline = Outline {
+            definitions: Definitions::new(self.alloc),
+            blocks: Blocks::new(self.alloc),
+        };
+        outline.blocks.push(0, names)?;
+        find_in_statements(self.alloc, &mut outline, statements)?;
+        Ok(outline.blocks)
     }
 
     /// Adds the names that the block of a file with this tree binds.
@@ -202,36 +221,20 @@ impl<'a> Found<'a> {
 
 // Undefined names.
 impl<'a> Source<'a> {
-    /// Adds the undefined names, each at its first place, and those that blocks inside of the file bind. No names are
-    /// found if the file has another fault, too.
-    fn add_names(self, found: &mut Found<'a>) -> Result<(), AllocError>
-        requires { self.file < length self.files.now }
-    {
-        let text = self.bindings()?;
-        self.add_names_beside(text.as_str(), found)
+    /// Adds the undefined names, each at its first place, and those that blocks inside of the file bind.
+    fn add_names(self, found: &mut Found<'a>) -> Result<(), AllocError> {
+        let (words, blocks) = (self.words()?, self.blocks()?);
+        let statements = self.tree.statements.as_slice();
+        let placed = resolve_names(self.alloc, &blocks, Some(&words), statements);
+        self.add_names_at(&without_memory(placed)?.spots, found)
     }
 
-    /// The same by a prelude with this text, which binds all names of the file.
-    fn add_names_beside(self, text: &str, found: &mut Found<'a>) -> Result<(), AllocError>
-        requires { self.file < length self.files.now }
-    {
-        let Ok(tree) = parse(self.alloc, text) else {
-            return Ok(());
-        };
-        // Any number but the file's own serves for a prelude that is not a file.
-        let all = without_memory(Prelude::new(self.alloc, self.files.len(), Some(&tree)))?;
-        match resolve(self.alloc, self.files, self.file, self.tree, Some(&all)) {
-            Ok(program) => self.add_names_of(&program, found),
-            Err(_) => Ok(()),
-        }
-    }
-
-    /// The same by the spots of this program.
-    fn add_names_of(self, program: &Program, found: &mut Found<'a>) -> Result<(), AllocError> {
+    /// The same by the spots beside a prelude of all words of the file.
+    fn add_names_at(self, spots: &Spots, found: &mut Found<'a>) -> Result<(), AllocError> {
         let mut told = self.set_of(found.names.as_slice())?;
         for (at, token) in self.tokens.iter().enumerate() {
             let word = word_of(self.text, token);
-            match program.spot(at) {
+            match spots.get(at) {
                 Some(spot) if token.kind == Kind::Name && told.insert(word)? => {
                     found.add(spot, at, token, word)?;
                 }
@@ -313,22 +316,33 @@ impl<'a> Source<'a> {
         }
     }
 
-    /// The first bad load.
-    fn first_bad_load(self) -> Result<Option<LocatedFault>, AllocError>
+    /// The first fault of a load statement.
+    fn bad_load(self, statement: &Statement) -> Result<Option<LocatedFault>, AllocError>
         requires { self.file < length self.files.now }
     {
-        let statements = self.tree.statements.as_slice();
-        let loads = find_loads(self.alloc, self.files, self.file, None, statements);
+        let one = slice::from_ref(statement);
+        let loads = find_loads(self.alloc, self.files, self.file, None, one);
         Ok(without_memory(loads)?.first)
     }
 
-    /// Adds these faults: the first one, as the report has it, the first one of each kind, and each undefined name.
+    /// Adds the first fault of each load statement.
+    fn add_bad_loads(self, found: &mut Found<'a>) -> Result<(), AllocError>
+        requires { self.file < length self.files.now }
+    {
+        for statement in self.tree.statements.as_slice() {
+            found.add_fault(self.bad_load(statement)?)?;
+        }
+        Ok(())
+    }
+
+    /// Adds these faults: the first one, as the report has it, each undefined name, the first of each load statement,
+    /// and the first misplaced statement and conflict.
     fn add_faults(self, first: ScopeFault, found: &mut Found<'a>) -> Result<(), AllocError>
         requires { self.file < length self.files.now }
     {
         self.add_names(found)?;
         found.add_fault(self.first_misplaced())?;
-        found.add_fault(self.first_bad_load()?)?;
+        self.add_bad_loads(found)?;
         let statements = self.tree.statements.as_slice();
         found.add_fault(without_memory(block_conflict(self.alloc, statements))?)?;
         if !found.has(first) {

@@ -187,6 +187,22 @@ pub fn shown(alloc: Global, word: &str) -> Result<String, AllocError> {
     Ok(all)
 }
 
+/// How many characters of a text that a program wrote are told.
+const WHOLE: usize = 4_000;
+
+/// A text that a program wrote for the reader: its first 4,000 characters, with its own lines.
+pub fn whole(alloc: Global, text: &str) -> Result<String, AllocError> {
+    let mut all = String::new(alloc);
+    for (count, c) in text.chars().enumerate() {
+        if count >= WHOLE {
+            all.push_str("..")?;
+            return Ok(all);
+        }
+        all.push(if c == '\n' { c } else { visible(c) })?;
+    }
+    Ok(all)
+}
+
 /// The name of a file: its label, or its path.
 pub fn push_name(
     all: &mut String,

@@ -16,7 +16,20 @@ const NONE: &str = "write `None`";
 const NO_CLASSES: &str = "there are no classes: use a dict";
 
 const ELSEWHERE: &str =
-    "it is built in elsewhere, and not here: write it in the prelude, or load it";
+    "another host builds it in, and this one does not: write it in the prelude, or load it";
+
+const NO_STRUCTS: &str = "there are no structs: write `dict(a = 1)`, and read it as `d[\"a\"]`";
+
+const NO_SETS: &str = "there are no sets: use a dict whose values are `True`";
+
+const NO_FLOATS: &str = "there are no floats: count in a smaller unit with ints";
+
+const NO_ATTRIBUTES: &str =
+    "values have no attributes but methods: use a dict, and `key in d` or `d.get(key)`";
+
+const NO_FILES: &str = "a file reads nothing but the files that it loads";
+
+const COMPREHENSION: &str = "write a comprehension: `[f(x) for x in xs if p(x)]`";
 
 /// The help for names that other dialects have.
 const OF_DIALECTS: &[(&'static str, &'static str)] = &[
@@ -28,27 +41,35 @@ const OF_DIALECTS: &[(&'static str, &'static str)] = &[
     ("false", "write `False`"),
     ("self", NO_CLASSES),
     ("this", NO_CLASSES),
-    ("struct", ELSEWHERE),
-    ("set", ELSEWHERE),
-    ("float", ELSEWHERE),
-    ("getattr", ELSEWHERE),
-    ("hasattr", ELSEWHERE),
-    ("dir", ELSEWHERE),
-    ("hash", ELSEWHERE),
-    ("ord", ELSEWHERE),
-    ("chr", ELSEWHERE),
-    ("json", ELSEWHERE),
+    ("super", NO_CLASSES),
+    ("struct", NO_STRUCTS),
+    ("set", NO_SETS),
+    ("frozenset", NO_SETS),
+    ("float", NO_FLOATS),
+    ("round", NO_FLOATS),
+    ("getattr", NO_ATTRIBUTES),
+    ("setattr", NO_ATTRIBUTES),
+    ("hasattr", NO_ATTRIBUTES),
+    ("dir", NO_ATTRIBUTES),
+    ("hash", "a dict finds its keys without it"),
+    (
+        "ord",
+        "no function tells the number of a character: look it up in a dict",
+    ),
+    (
+        "chr",
+        "no function makes a character of a number: look it up in a list",
+    ),
+    ("json", "`--with values` shows globals as JSON"),
+    ("map", COMPREHENSION),
+    ("filter", COMPREHENSION),
+    ("sum", "add in a loop: `for x in xs:` and `total += x`"),
+    ("open", NO_FILES),
+    ("input", NO_FILES),
+    ("bytes", "there are no byte strings: use a string"),
+    ("isinstance", "write `type(x) == \"list\"`"),
     ("depset", ELSEWHERE),
     ("select", ELSEWHERE),
-    ("map", ELSEWHERE),
-    ("filter", ELSEWHERE),
-    ("sum", ELSEWHERE),
-    ("open", ELSEWHERE),
-    ("round", ELSEWHERE),
-    ("bytes", ELSEWHERE),
-    ("input", ELSEWHERE),
-    ("super", ELSEWHERE),
-    ("isinstance", ELSEWHERE),
     ("native", ELSEWHERE),
     ("glob", ELSEWHERE),
     ("rule", ELSEWHERE),
@@ -137,12 +158,22 @@ fn unquoted(word: &str) -> &str {
     word.trim_start_matches('r').trim_matches(['"', '\''])
 }
 
+/// Among what the word that was meant is sought.
+#[derive(Clone, Copy)]
+pub(crate) enum Choices<'n> {
+    /// These names, and the labels of all files.
+    Of(&'n [&'n str]),
+    /// It is not sought.
+    Unsought,
+}
+
 /// A refusal at its token.
 #[derive(Clone, Copy)]
 struct Spot<'a> {
     source: Source<'a>,
     refusal: LocatedFault,
     token: &'a Token,
+    is_sought: bool,
 }
 
 impl<'a> Spot<'a> {
@@ -159,11 +190,11 @@ impl<'a> Spot<'a> {
     fn undefined(self, names: &[&str]) -> Result<Mistake, AllocError> {
         let word = self.word();
         let text = [Plain("the name `"), Shown(word), Plain("` is not defined")];
-        if let Some(name) = nearest(self.source.alloc, word, names)? {
-            return self.told("undefined", &text, &meant(name));
+        if let Some(help) = help_of(OF_DIALECTS, word) {
+            return self.told("undefined", &text, &[Plain(help)]);
         }
-        match help_of(OF_DIALECTS, word) {
-            Some(help) => self.told("undefined", &text, &[Plain(help)]),
+        match nearest(self.source.alloc, word, names)? {
+            Some(name) => self.told("undefined", &text, &meant(name)),
             None => self.told("undefined", &text, &[]),
         }
     }
@@ -236,12 +267,15 @@ impl<'a> Spot<'a> {
         }
     }
 
-    /// The label of the file that the word may mean.
+    /// The label of the file that the word may mean: another one than the file itself.
     fn label_meant(self) -> Result<Option<&'a str>, AllocError> {
+        if !self.is_sought {
+            return Ok(None);
+        }
         let (alloc, files) = (self.source.alloc, self.source.files);
         match file_meant(alloc, files, unquoted(self.word()), self.package())? {
-            Some(n) => Ok(Some(label_of(files, n))),
-            None => Ok(None),
+            Some(n) if n != self.source.file => Ok(Some(label_of(files, n))),
+            _ => Ok(None),
         }
     }
 
@@ -274,16 +308,21 @@ fn meant_label(label: &str) -> [Part<'_>; 3] {
 /// The mistake for a refusal; `None` if the refusal has no token.
 pub(crate) fn told(
     source: Source,
-    names: &[&str],
+    choices: Choices,
     refusal: LocatedFault,
 ) -> Result<Option<Mistake>, AllocError> {
     let Some(token) = source.tokens.get(refusal.token) else {
         return Ok(None);
     };
+    let (names, is_sought) = match choices {
+        Choices::Of(names) => (names, true),
+        Choices::Unsought => (&[] as &[&str], false),
+    };
     let spot = Spot {
         source,
         refusal,
         token,
+        is_sought,
     };
     let mistake = match refusal.fault {
         ScopeFault::Undefined { .. } => spot.undefined(names)?,

@@ -6,7 +6,7 @@ use crate::message::Part::Plain;
 use crate::mistake::Mistake;
 use crate::names::{Found, Source};
 use crate::place::{Line, text_of};
-use crate::refused::told;
+use crate::refused::{Choices, told};
 use crate::syntax::bad_syntax;
 use crate::tokens::{bad_indent, bad_token};
 use star_label::files::Files;
@@ -54,15 +54,36 @@ fn unread(
     }
 }
 
+/// After how many comparisons of words no word that was meant is sought for the further mistakes of a file.
+const COMPARED: usize = 4_000;
+
+/// With how many words a mistake is compared, to find the one that was meant.
+fn comparisons(source: Source, found: &Found, fault: ScopeFault) -> usize {
+    match fault {
+        ScopeFault::Undefined { .. } => found.names.len(),
+        ScopeFault::NoFile { .. } | ScopeFault::BadLabel { .. } => {
+            source.files.len().saturating_mul(2)
+        }
+        _ => 0,
+    }
+}
+
 /// The mistakes for the faults that were found in a file, without undefined names if some names may not be known.
 fn mistakes_for(source: Source, found: &Found, is_blind: bool) -> Result<Vec<Mistake>, AllocError> {
     let mut all = Vec::new(source.alloc);
+    let mut compared = 0usize;
     for refusal in &found.faults {
         let is_undefined = matches!(refusal.fault, ScopeFault::Undefined { .. });
         if is_undefined && is_blind {
             continue;
         }
-        if let Some(mistake) = told(source, found.names.as_slice(), *refusal)? {
+        let choices = if compared < COMPARED {
+            Choices::Of(found.names.as_slice())
+        } else {
+            Choices::Unsought
+        };
+        compared = compared.saturating_add(comparisons(source, found, refusal.fault));
+        if let Some(mistake) = told(source, choices, *refusal)? {
             all.push(mistake)?;
         }
     }
@@ -132,8 +153,8 @@ impl<'a> Sources<'a> {
         }
     }
 
-    /// The mistakes of a file that has static faults, in their order in the text: the first of each kind, and each
-    /// undefined name. Names that may come from a prelude that does not parse are left out.
+    /// The mistakes of a file that has static faults, in their order in the text: each undefined name, each bad load, and
+    /// the first misplaced statement and conflict. Names that may come from a prelude that does not parse are left out.
     pub fn mistakes(self, file: usize) -> Result<Vec<Mistake>, AllocError> {
         if file >= self.files.len() {
             return Ok(Vec::new(self.alloc));

@@ -59,8 +59,8 @@ const RESERVED: &[(&'static str, &'static str)] = &[
     ("global", OWN_NAMES),
     ("nonlocal", OWN_NAMES),
     ("yield", NO_GENERATORS),
-    ("async", NO_GENERATORS),
-    ("await", NO_GENERATORS),
+    ("async", NO_TASKS),
+    ("await", NO_TASKS),
 ];
 
 const LOAD: &str = "write `load(\"//package:file.star\", \"name\")`";
@@ -71,6 +71,11 @@ const NO_EXCEPTIONS: &str =
 const OWN_NAMES: &str = "a function binds no names outside of it: return the value";
 
 const NO_GENERATORS: &str = "there are no generators: return a list";
+
+const NO_TASKS: &str = "a call is over when it returns: leave the word out";
+
+const CONFLICT: &str =
+    "a merge left both versions here: keep one of them, and none of the lines `<<<<<<<`, `=======`, `>>>>>>>`";
 
 /// The help for a name before a token that the grammar does not read.
 const NAMES: &[(&'static str, &'static str)] = &[
@@ -376,12 +381,15 @@ impl<'a> Spot<'a> {
         )
     }
 
-    /// The place directly after the token before this one, and the text of that token.
+    /// The place directly after the last token before this one that has a text, and that text.
     fn end_before(self) -> (usize, &'a str) {
-        match self.before {
-            Some(before) => (before.span.end, word_of(self.text, &before)),
-            None => (self.token.span.start, ""),
+        for token in self.tokens.iter().take(self.miss.token).rev() {
+            let word = word_of(self.text, token);
+            if !word.trim().is_empty() {
+                return (token.span.end, word);
+            }
         }
+        (self.token.span.start, "")
     }
 
     /// A line or a file that ends too soon.
@@ -423,18 +431,47 @@ impl<'a> Spot<'a> {
 
 // Every other token.
 impl<'a> Spot<'a> {
-    /// The mistake of a sign that newcomers write in a place where it cannot be.
-    fn of_sign(self, sign: Punctuator) -> Option<&'static str> {
+    /// Whether the token before this one is the same sign.
+    fn is_doubled(self, sign: Punctuator) -> bool {
+        has_kind(self.before, Kind::Punctuator(sign))
+    }
+
+    /// The kind of the innermost open bracket.
+    fn bracket(self) -> Option<Kind> {
+        Some(token_at(self.tokens, self.miss.open?)?.kind)
+    }
+
+    /// The mistake of `=` or `:` in a place where it cannot be.
+    fn of_equals_or_colon(self, sign: Punctuator) -> Option<&'static str> {
         let is_last = self.miss.wanted == LINE_END;
+        let bracket = self.bracket();
         match sign {
             Punctuator::Assign if is_last => Some("a statement binds once: write two statements"),
+            Punctuator::Assign if bracket == Some(Kind::Punctuator(Punctuator::LeftBrace)) => {
+                Some("an entry of a dict is written `key: value`")
+            }
             Punctuator::Assign => Some("a comparison is written `==`"),
             Punctuator::Colon if has_kind(self.after, Kind::Punctuator(Punctuator::Assign)) => {
                 Some("a name is bound by a statement of its own: there is no `:=`")
             }
+            Punctuator::Colon if bracket == Some(Kind::Punctuator(Punctuator::LeftBracket)) => {
+                Some("a slice is written `x[start:stop:stride]`")
+            }
             Punctuator::Colon if is_last || self.miss.in_list => Some(
                 "there are no type annotations",
             ),
+            _ => None,
+        }
+    }
+
+    /// The mistake of a sign that newcomers write in a place where it cannot be.
+    fn of_sign(self, sign: Punctuator) -> Option<&'static str> {
+        match sign {
+            Punctuator::Assign | Punctuator::Colon => self.of_equals_or_colon(sign),
+            Punctuator::Ampersand if self.is_doubled(sign) => Some("write `and`"),
+            Punctuator::Bar if self.is_doubled(sign) => Some("write `or`"),
+            Punctuator::ShiftLeft | Punctuator::ShiftRight | Punctuator::EqualEqual
+                if self.begins_line() => { Some(CONFLICT) }
             Punctuator::Minus if has_kind(self.after, Kind::Punctuator(Punctuator::Greater)) => {
                 Some("there are no type annotations")
             }

@@ -11,9 +11,54 @@ const CODE: &str = "bad_token";
 
 const INDENT: &str = "bad_indent";
 
+/// The character with which some editors begin a file.
+const BYTE_ORDER_MARK: char = '\u{feff}';
+
 /// The help for a string with a bad escape.
 const ESCAPES: &str =
     "escapes are \\n \\t \\r \\\\ \\' \\\" \\a \\b \\f \\v, \\ooo, \\xhh up to \\x7f, \\uhhhh and \\Uhhhhhhhh; r\"..\" has none";
+
+/// The characters that are an escape by themselves after a backslash.
+const ESCAPED: [char; 12] = [
+    'n', 't', 'r', '\\', '\'', '"', 'a', 'b', 'f', 'v', '\n', '\r',
+];
+
+/// How many hexadecimal digits follow this letter in an escape; 0 if it begins none.
+fn digits_after(letter: char) -> usize {
+    match letter {
+        'x' => 2,
+        'u' => 4,
+        'U' => 8,
+        _ => 0,
+    }
+}
+
+/// Whether a text after a backslash begins with the rest of an escape.
+fn is_escape(text: &str) -> bool {
+    let mut letters = text.chars();
+    let Some(letter) = letters.next() else {
+        return false;
+    };
+    let digits = digits_after(letter);
+    let count = letters
+        .take(digits)
+        .filter(|c| c.is_ascii_hexdigit())
+        .count();
+    ESCAPED.contains(&letter) || letter.is_digit(8) || (digits > 0 && count == digits)
+}
+
+/// The place and the size of the first backslash with a character after it that is no escape.
+fn bad_escape(text: &str) -> Option<(usize, usize)> {
+    let mut is_escaped = false;
+    for (at, c) in text.char_indices() {
+        let rest = text.get(at..).unwrap_or("");
+        if is_escaped && !is_escape(rest) {
+            return Some((at.saturating_sub(1), c.len_utf8().saturating_add(1)));
+        }
+        is_escaped = c == '\\' && !is_escaped;
+    }
+    None
+}
 
 /// A byte that fits nothing: its place, and the text around it.
 #[derive(Clone, Copy)]
@@ -100,19 +145,30 @@ impl<'a> Spot<'a> {
         between(self.text, front, end)
     }
 
+    /// A backslash, so many bytes from here on, that begins no escape; `size` bytes are shown.
+    fn escape(self, from: usize, size: usize) -> Result<Mistake, AllocError> {
+        let start = self.at.saturating_add(from);
+        let mark = Mark {
+            file: self.file,
+            start,
+            end: start.saturating_add(size),
+        };
+        let text = [
+            Plain("there is no escape `"),
+            Shown(between(self.text, mark.start, mark.end)),
+            Plain("` in strings"),
+        ];
+        Mistake::new(self.alloc, mark, CODE, &text, &[Plain(ESCAPES)])
+    }
+
     /// A string whose quotes end at this byte: it is not closed, or it has a bad escape.
     fn string(self, quotes: &str) -> Result<Mistake, AllocError> {
         let rest = self.rest();
         let inside = self.inside(quotes);
-        if inside.contains(quotes) && inside.contains('\\') {
-            return self.told(
-                rest.len(),
-                &[
-                    Plain("this string has an escape that is none: "),
-                    Shown(rest),
-                ],
-                &[Plain(ESCAPES)],
-            );
+        if inside.contains(quotes) {
+            if let Some((at, size)) = bad_escape(inside) {
+                return self.escape(quotes.len().saturating_add(at), size);
+            }
         }
         self.told(
             rest.len(),
@@ -153,6 +209,10 @@ impl<'a> Spot<'a> {
     /// A character that is not in the language.
     fn sign(self, c: char) -> Result<Mistake, AllocError> {
         let size = c.len_utf8();
+        if c == BYTE_ORDER_MARK {
+            let help = [Plain("save the file as UTF-8 without it")];
+            return self.told(size, &[Plain("a byte order mark stands here")], &help);
+        }
         self.told(
             size,
             &[

@@ -79,7 +79,7 @@ fn last_line(statements: &[Statement]) -> usize
     }
 }
 
-/// The name of a global with its text, which is visited and paid as a new string is.
+/// The name of a global with its text, which is visited and paid as a new string is, and built only if it can be paid.
 fn text_of(
     machine: &mut Machine,
     world: &World,
@@ -90,8 +90,9 @@ fn text_of(
     ensures { RefinesBy owned_one (spec.global_text world.now.setting levels line (owned_one global.now) machine.old)
         result machine.new }
 {
-    let text = machine.repr(world.setting(), levels, line, global.1)?;
-    machine.pay(line, 1 + text.as_str().len() as u128)?;
+    let room = machine.steps_left() as usize;
+    let text = machine.repr(world.setting(), levels, line, global.1, room)?;
+    let text = machine.pay_for_draft(line, text)?;
     let name = String::from_str(machine.alloc(), global.0.as_str())?;
     Ok((name, text))
 }

@@ -62,10 +62,10 @@ common_closed is_in p q a n m r e step =
     (read.0, to_common is_in p m within ∙ read.1)
 
 part_one : (is_in : ℕ → Bool) (p q : Plan) → AgreeAmong is_in p q → IsPartOf (common is_in p) p
-part_one is_in p q a = record { steps = refl; prelude = refl; reads = λ n r e. (in_common is_in p n r e).1; closed = common_closed is_in p q a }
+part_one is_in p q a = record { mode = refl; prelude = refl; reads = λ n r e. (in_common is_in p n r e).1; closed = common_closed is_in p q a }
 
 part_two : (is_in : ℕ → Bool) (p q : Plan) → AgreeAmong is_in p q → IsPartOf (common is_in p) q
-part_two is_in p q a = record { steps = a.steps; prelude = a.prelude; reads = λ n r e. (let is = in_common is_in p n r e in sym (a.reads n is.0) ∙ is.1); closed = common_closed is_in p q a }
+part_two is_in p q a = record { mode = a.mode; prelude = a.prelude; reads = λ n r e. (let is = in_common is_in p n r e in sym (a.reads n is.0) ∙ is.1); closed = common_closed is_in p q a }
 
 -- a plan and a part of it agree
 abbrev Sames : Plan → Plan → ℕ → Type 0

@@ -3,6 +3,7 @@ use Rattle.std.specs.Arc.{arc_value}
 use Rattle.std.proofs.Common.{◌≡◌, ◌-◌, ℕ, zero, suc, Bool, true, List, map, Some, ap, sym, subst, ◌∙◌}
 use Rattle.std.specs.Prelude.{Contains, slice_get}
 use Rattle.std.proofs.lemmas.List.Elements.{All-weaker}
+use Rattle.star_dialect.specs.declared.Mode.{Mode}
 use Rattle.star_cache.specs.State.{Loads}
 use Rattle.star_cache.specs.Walk.{LeadsTo, Walk}
 use Rattle.star_label.specs.Files.{File}
@@ -29,7 +30,7 @@ loaded-same p q n e = ap (λ r. map (λ l. l.file) (loads_in r)) e
 -- agreement goes both ways
 pub among_back : (is_in : ℕ → Bool) (p q : Plan) → AgreeAmong is_in p q → AgreeAmong is_in q p
 among_back is_in p q a = record {
-  steps = sym a.steps;
+  mode = sym a.mode;
   prelude = sym a.prelude;
   reads = λ n h. sym (a.reads n h);
   closed = λ n m h step. a.closed n m h (subst (λ xs. Contains xs m) (sym (loaded-same p q n (a.reads n h))) step);
@@ -64,7 +65,7 @@ module _ (files others : List File) (p q : Plan) (is : IsPlanOf files p) (also :
     sound = ap tree_in (sym (a.reads n h)) ∙ b.sound;
     good = subst (λ ns. AreGood q ns b.outcomes) (loaded-same p q n (a.reads n h)) (good_over p q (loaded p n) b.outcomes (λ k c o. outcome_to k (a.closed n k h c) o) b.good);
     run = sym (one_run_by_needs files others p q is also is_in a n h b.statements b.outcomes b.sound b.good) ∙ b.run;
-    steps = b.steps ∙ ap (λ s. s - b.state.steps) a.steps;
+    steps = b.steps ∙ ap (λ (m : Mode). m.steps - b.state.steps) a.mode;
   }
 
 module _ (files others : List File) (p q : Plan) (is : IsPlanOf files p) (also : IsPlanOf others q) (is_in : ℕ → Bool) (a : AgreeAmong is_in p q) where

@@ -64,7 +64,7 @@ loads_for_all_roots files plan ordered is n reached p r prelude_is read =
     ap (λ z. map (λ l. l.file) (loads_in z)) (ap Some one ∙ sym own.1)
 
 pub loads_in_plans : LoadsInPlans
-loads_in_plans files prelude steps n loads are plan is prelude_is steps_is reached =
+loads_in_plans files prelude mode n loads are plan is prelude_is mode_is reached =
     let read = (is.reached n).0 reached in
     let there : IsPrelude files prelude is.prelude = subst (λ o. IsPrelude files o is.prelude) prelude_is is.prelude_is in
     sym (are is.prelude read.0 there (is.right n read.0 read.1)) ∙ ap (λ z. map (λ l. l.file) (loads_in z)) (sym read.1)
@@ -100,7 +100,7 @@ in_both is_in p q n e =
 pub to_both : (is_in : ℕ → Bool) (p q : Plan) (n : ℕ) (r s : Reading) → is_in n ≡ true → read_of p n ≡ Some r → read_of q n ≡ Some s → both is_in p q n ≡ true
 to_both is_in p q n r s h x y = and_all (is_in n) _ h (and_all (is_some (read_of p n)) (is_some (read_of q n)) (ap is_some x) (ap is_some y))
 
-module _ (files others : List File) (p q : Plan) (is_in : ℕ → Bool) (ordered : IsOrdered files) (is : IsPlanOf files p) (also : IsPlanOf others q) (prelude : p.prelude ≡ q.prelude) (steps : p.steps ≡ q.steps) (same : HaveSame is_in p.prelude files others) (closed : (n m : ℕ) → is_in n ≡ true → Loads (loaded p) n m → is_in m ≡ true) where
+module _ (files others : List File) (p q : Plan) (is_in : ℕ → Bool) (ordered : IsOrdered files) (is : IsPlanOf files p) (also : IsPlanOf others q) (prelude : p.prelude ≡ q.prelude) (mode : p.mode ≡ q.mode) (same : HaveSame is_in p.prelude files others) (closed : (n m : ℕ) → is_in n ≡ true → Loads (loaded p) n m → is_in m ≡ true) where
   reads_same : (n : ℕ) → InBoth is_in p q n → read_of p n ≡ read_of q n
   reads_same n b = reading_by_texts files others p q is_in ordered is also prelude same n b.within ((is.reached n).1 b.one) ((also.reached n).1 b.other)
 
@@ -113,7 +113,7 @@ module _ (files others : List File) (p q : Plan) (is_in : ℕ → Bool) (ordered
 
   pub agree_by_texts : AgreeAmong (both is_in p q) p q
   agree_by_texts = record {
-    steps = steps;
+    mode = mode;
     prelude = prelude;
     reads = λ n h. reads_same n (in_both is_in p q n h);
     closed = λ n m h step. loads_in_both n m (in_both is_in p q n h) step;
@@ -127,15 +127,15 @@ module _ (files others : List File) (p q : Plan) (is_in : ℕ → Bool) (ordered
       to_both is_in p q n one.0 other.0 h one.1 other.1
 
 pub one_end_by_texts : OneEndByTexts
-one_end_by_texts files others p q is_in ordered is also prelude steps same closed n h x y e =
-    one_module_end_by_needs files others p q is also (both is_in p q) (agree_by_texts files others p q is_in ordered is also prelude steps same closed) n (agree_at files others p q is_in ordered is also prelude steps same closed n h x y) e
+one_end_by_texts files others p q is_in ordered is also prelude mode same closed n h x y e =
+    one_module_end_by_needs files others p q is also (both is_in p q) (agree_by_texts files others p q is_in ordered is also prelude mode same closed) n (agree_at files others p q is_in ordered is also prelude mode same closed n h x y) e
 
 -- a fact that depends only on needs holds in each plan of files if it holds in one
-for_all_roots : (P : Plan → ℕ → Type 0) → Among (λ p q n. P p n → P q n) → (files : List File) (plan : Plan) → IsOrdered files → IsPlanOf files plan → (n : ℕ) → IsReached plan n → P plan n → InEachPlan files plan.prelude plan.steps n (λ q. P q n)
-for_all_roots P by_needs files plan ordered is n reached ended q also prelude steps too =
+for_all_roots : (P : Plan → ℕ → Type 0) → Among (λ p q n. P p n → P q n) → (files : List File) (plan : Plan) → IsOrdered files → IsPlanOf files plan → (n : ℕ) → IsReached plan n → P plan n → InEachPlan files plan.prelude plan.mode n (λ q. P q n)
+for_all_roots P by_needs files plan ordered is n reached ended q also prelude mode too =
     let same : HaveSame (λ k. true) plan.prelude files files = record { labels = refl; texts = λ k h. refl; prelude_text = λ k h. refl } in
-    let agree = agree_by_texts files files plan q (λ k. true) ordered is also (sym prelude) (sym steps) same (λ k m h step. refl) in
-    by_needs files files plan q is also (both (λ k. true) plan q) agree n (agree_at files files plan q (λ k. true) ordered is also (sym prelude) (sym steps) same (λ k m h step. refl) n refl reached too) ended
+    let agree = agree_by_texts files files plan q (λ k. true) ordered is also (sym prelude) (sym mode) same (λ k m h step. refl) in
+    by_needs files files plan q is also (both (λ k. true) plan q) agree n (agree_at files files plan q (λ k. true) ordered is also (sym prelude) (sym mode) same (λ k m h step. refl) n refl reached too) ended
 
 pub ends_for_all_roots : EndsForAllRoots
 ends_for_all_roots files plan ordered is n e reached ended = for_all_roots (λ p k. IsEnd p k e) (ends_by_needs e) files plan ordered is n reached ended
@@ -229,8 +229,8 @@ module _ (files others : List File) (q : Plan) (is_in : ℕ → Bool) (also : Is
   pub own_is : IsPlanOf files (own is_in q)
   own_is = readings_make_plans files (own is_in q) also.prelude (prelude_to others files q.prelude also.prelude (λ k e. sym (same.prelude_text k e)) also.prelude_is) (kept_length is_in 0 q.reads ∙ (also.size ∙ sym (length_same files others same.labels))) own_right (root_read is_in q) load_read
 
-stay : (P : Plan → ℕ → Type 0) → Among (λ p q n. P p n → P q n) → Stays (λ files prelude steps n. InEachPlan files prelude steps n (λ q. P q n))
-stay P by_needs files others prelude steps is_in ordered same closed n h ended q also prelude_is steps_is reached =
+stay : (P : Plan → ℕ → Type 0) → Among (λ p q n. P p n → P q n) → Stays (λ files prelude mode n. InEachPlan files prelude mode n (λ q. P q n))
+stay P by_needs files others prelude mode is_in ordered same closed n h ended q also prelude_is mode_is reached =
     let here_same : HaveSame is_in q.prelude files others = subst (λ o. HaveSame is_in o files others) (sym prelude_is) same in
     let here_closed : IsClosed files q.prelude is_in = subst (λ o. IsClosed files o is_in) (sym prelude_is) closed in
     let p : Plan = own is_in q in
@@ -238,7 +238,7 @@ stay P by_needs files others prelude steps is_in ordered same closed n h ended q
     let within : (k m : ℕ) → is_in k ≡ true → Loads (loaded p) k m → is_in m ≡ true = within_own files others q is_in also here_same here_closed in
     let read = (also.reached n).0 reached in
     let there : IsReached p n = root_there is_in q n read.0 (to_common is_in q n h ∙ read.1) in
-    by_needs files others p q is also (both is_in p q) (agree_by_texts files others p q is_in ordered is also refl refl here_same within) n (agree_at files others p q is_in ordered is also refl refl here_same within n h there reached) (ended p is prelude_is steps_is there)
+    by_needs files others p q is also (both is_in p q) (agree_by_texts files others p q is_in ordered is also refl refl here_same within) n (agree_at files others p q is_in ordered is also refl refl here_same within n h there reached) (ended p is prelude_is mode_is there)
 
 pub ends_stay : EndsStay
 ends_stay e = stay (λ p k. IsEnd p k e) (ends_by_needs e)

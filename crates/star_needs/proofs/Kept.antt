@@ -1,6 +1,7 @@
 -- The result of a file stays if what it loads of changed files is the same.
 use Rattle.std.proofs.Common.{◌≡◌, ◌⊎◌, inl, inr, ℕ, zero, suc, ◌-◌, nat_eq, eqb-true, Bool, true, List, [], ◌∷◌, map, Option, Some, None, refl, ap, sym, subst, ◌∙◌}
 use Rattle.std.specs.Prelude.{Contains, slice_get}
+use Rattle.star_dialect.specs.declared.Mode.{Mode}
 use Rattle.star_cache.specs.State.{Loads}
 use Rattle.star_label.specs.Files.{File}
 use Rattle.star_store.specs.declared.values.Value.{Value}
@@ -90,18 +91,18 @@ loads_shared is_in p q n k = every_of (LoadsAreShared (veil_over is_in p q n k))
 
 -- ---- the run
 
-same_run : (is_in : ℕ → Bool) (p q : Plan) (n : ℕ) (k : Step is_in p q n) → RunsTheSame (given p n k.ms) (veil_over is_in p q n k) p.steps k.statements
+same_run : (is_in : ℕ → Bool) (p q : Plan) (n : ℕ) (k : Step is_in p q n) → RunsTheSame (given p n k.ms) (veil_over is_in p q n k) p.mode.steps k.statements
 same_run is_in p q n k = turn (file_placed k.files p k.is_p n k.statements k.sound)
   where
-    turn : (misplaced k.statements ≡ []) ⊎ (in_statements k.statements of_prelude ≡ []) → RunsTheSame (given p n k.ms) (veil_over is_in p q n k) p.steps k.statements
-    turn (inl h) = k.runs (given p n k.ms) (veil_over is_in p q n k) p.steps k.statements h (loads_shared is_in p q n k)
-    turn (inr h) = k.runs_without_loads (given p n k.ms) (veil_over is_in p q n k) p.steps k.statements h
+    turn : (misplaced k.statements ≡ []) ⊎ (in_statements k.statements of_prelude ≡ []) → RunsTheSame (given p n k.ms) (veil_over is_in p q n k) p.mode.steps k.statements
+    turn (inl h) = k.runs (given p n k.ms) (veil_over is_in p q n k) p.mode.steps k.statements h (loads_shared is_in p q n k)
+    turn (inr h) = k.runs_without_loads (given p n k.ms) (veil_over is_in p q n k) p.mode.steps k.statements h
 
 runs_same : (is_in : ℕ → Bool) (p q : Plan) (n : ℕ) (k : Step is_in p q n) → run_by_names p n k.statements k.ms ≡ run_by_names q n k.statements k.ks
 runs_same is_in p q n k =
     (same_run is_in p q n k).0
-    ∙ (ap (λ z. run_file (by_names z) z most_levels k.statements (start z p.steps)) (with_is is_in p q n k)
-    ∙ ap (λ s. run_file (by_names (given q n k.ks)) (given q n k.ks) most_levels k.statements (start (given q n k.ks) s)) k.agree.steps)
+    ∙ (ap (λ z. run_file (by_names z) z most_levels k.statements (start z p.mode.steps)) (with_is is_in p q n k)
+    ∙ ap (λ (m : Mode). run_file (by_names (given q n k.ks)) (given q n k.ks) most_levels k.statements (start (given q n k.ks) m.steps)) k.agree.mode)
 
 sound_in : (is_in : ℕ → Bool) (p q : Plan) (n : ℕ) (k : Step is_in p q n) → tree_in (read_of q n) ≡ Some k.statements
 sound_in is_in p q n k = ap tree_in (sym (k.agree.reads n k.within)) ∙ k.sound
@@ -184,6 +185,6 @@ kept_results_stay runs bare files others p q is also is_in a n h =
             sound = sound_in is_in p q n k;
             good = k.good_q;
             run = sym (runs_same is_in p q n k) ∙ x.run;
-            steps = x.steps ∙ ap (λ s. s - x.state.steps) a.steps;
+            steps = x.steps ∙ ap (λ (m : Mode). m.steps - x.state.steps) a.mode;
           };
     }

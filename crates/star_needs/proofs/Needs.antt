@@ -21,10 +21,10 @@ use Rattle.star_plan.proofs.Seen.{contained, ran-is}
 use Rattle.star_plan.proofs.Stay.{good_is}
 use Rattle.star_needs.specs.Agree.{RunsAgree}
 
--- two plans give their files the same steps and the same prelude, and a file and all files to which its loads lead have
+-- two plans give their files the same mode and the same prelude, and a file and all files to which its loads lead have
 -- the same readings in both
 pub record Agree (p q : Plan) (n : ℕ) : Type 0 where
-  pub steps : p.steps ≡ q.steps
+  pub mode : p.mode ≡ q.mode
   pub prelude : p.prelude ≡ q.prelude
   pub reads : (k : ℕ) → LeadsTo (Loads (loaded p)) n k → read_of p k ≡ read_of q k
 
@@ -39,7 +39,7 @@ at_file : (p q : Plan) (n : ℕ) → Agree p q n → read_of p n ≡ read_of q n
 at_file p q n a = a.reads n (0, refl)
 
 on_loads : (p q : Plan) (n m : ℕ) → Agree p q n → Loads (loaded p) n m → Agree p q m
-on_loads p q n m a step = record { steps = a.steps; prelude = a.prelude; reads = λ k way. a.reads k (suc way.0, (m, step, way.1)) }
+on_loads p q n m a step = record { mode = a.mode; prelude = a.prelude; reads = λ k way. a.reads k (suc way.0, (m, step, way.1)) }
 
 runs_on : (p q : Plan) (n m : ℕ) → AllRunsAgree p q n → Loads (loaded p) n m → AllRunsAgree p q m
 runs_on p q n m h step = λ k way. h k (suc way.0, (m, step, way.1))

@@ -3,6 +3,7 @@ use Rattle.std.proofs.Common.{◌≡◌, ℕ, zero, suc, Bool, true, false, nat_
 use Rattle.std.specs.Prelude.{slice_get}
 use Rattle.std.specs.Option.{option_flatten, option_map}
 use Rattle.std.proofs.lemmas.Option.{slice_get-map}
+use Rattle.star_dialect.specs.declared.Mode.{Mode}
 use Rattle.star_cache.specs.State.{Loads}
 use Rattle.star_cache.specs.Walk.{Walk}
 use Rattle.star_label.specs.Files.{File}
@@ -123,18 +124,18 @@ parts_run_placed files part whole placed is placed_so of n ss ms e g =
     let w : Setting = given part n ms in
     let u : Setting = with_outlines (outlines (trees whole)) w in
     let all = gather part (loaded part n) ms g in
-    let fit : AllFit (trees part) w (start w part.steps) = fit_at part tables (λ k ks file us. right files part whole placed is placed_so of sound k ks file us) all.0 n ms all.1 in
+    let fit : AllFit (trees part) w (start w part.mode.steps) = fit_at part tables (λ k ks file us. right files part whole placed is placed_so of sound k ks file us) all.0 n ms all.1 in
     let sight : Sight (trees part) w = record { outlines = outlines (trees whole); same = λ file us h. same_outline part whole of file us h } in
-    let places : run_file (by_places tables u) u most_levels ss (start w part.steps) ≡ run_file (by_names w) w most_levels ss (start w part.steps) = outlines_seen tables (trees part) w ss part.steps refl (stands part n ss e) (right files part whole placed is placed_so of sound n ms) fit sight in
+    let places : run_file (by_places tables u) u most_levels ss (start w part.mode.steps) ≡ run_file (by_names w) w most_levels ss (start w part.mode.steps) = outlines_seen tables (trees part) w ss part.mode.steps refl (stands part n ss e) (right files part whole placed is placed_so of sound n ms) fit sight in
     let read = sound_read (read_of part n) ss e in
-    let same : u ≡ given whole n ms = ap (λ r. setting n (trees whole) (load_files (loads_in r)) part.prelude ms) (read.1 ∙ sym (of.reads n _ read.1)) ∙ ap (λ o. setting n (trees whole) (load_files (loads_of whole n)) o ms) of.prelude in
+    let same : u ≡ given whole n ms = ap (λ r. setting n (trees whole) (load_files (loads_in r)) part.prelude part.mode.dialect ms) (read.1 ∙ sym (of.reads n _ read.1)) ∙ (ap (λ o. setting n (trees whole) (load_files (loads_of whole n)) o part.mode.dialect ms) of.prelude ∙ ap (λ (m : Mode). setting n (trees whole) (load_files (loads_of whole n)) whole.prelude m.dialect ms) of.mode) in
     let whole_sound : PreludeIsSound whole = λ q h. (let t = sound q (of.prelude ∙ h) in (t.0, tree_whole part whole of q t.0 t.1)) in
     let resolved : (file : ℕ) (us : List Statement) → Stands (trees whole) file us → IsResolved tables u file us = λ file us h. subst (λ z. IsResolved tables z file us) (sym same) (tables_right files whole placed is placed_so whole_sound n ms file us h) in
-    let names : run_file (by_places tables u) u most_levels ss (start u part.steps) ≡ run_file (by_names u) u most_levels ss (start u part.steps) = (places_mean_names tables (trees whole) u ss part.steps refl (wider part whole of n ss (stands part n ss e)) resolved (fit_wider part whole of w refl (start w part.steps) fit)).0 in
+    let names : run_file (by_places tables u) u most_levels ss (start u part.mode.steps) ≡ run_file (by_names u) u most_levels ss (start u part.mode.steps) = (places_mean_names tables (trees whole) u ss part.mode.steps refl (wider part whole of n ss (stands part n ss e)) resolved (fit_wider part whole of w refl (start w part.mode.steps) fit)).0 in
     sym places
     ∙ (names
-    ∙ (ap (λ z. run_file (by_names z) z most_levels ss (start z part.steps)) same
-    ∙ ap (λ k. run_file (by_names (given whole n ms)) (given whole n ms) most_levels ss (start (given whole n ms) k)) of.steps))
+    ∙ (ap (λ z. run_file (by_names z) z most_levels ss (start z part.mode.steps)) same
+    ∙ ap (λ (m : Mode). run_file (by_names (given whole n ms)) (given whole n ms) most_levels ss (start (given whole n ms) m.steps)) of.mode))
 
 pub parts_run : PartsRun
 parts_run files part whole is of =
@@ -150,7 +151,7 @@ part_walk part whole of (suc j) n k r e w =
     part_walk part whole of j w.0 k next.0 next.1 w.2
 
 pub part_agrees : (part whole : Plan) → IsPartOf part whole → (n : ℕ) (r : Reading) → read_of part n ≡ Some r → Agree part whole n
-part_agrees part whole of n r e = record { steps = of.steps; prelude = of.prelude; reads = λ k way. part_walk part whole of way.0 n k r e way.1 }
+part_agrees part whole of n r e = record { mode = of.mode; prelude = of.prelude; reads = λ k way. part_walk part whole of way.0 n k r e way.1 }
 
 pub parts_have_results : PartsHaveResults
 parts_have_results files part whole is of n r e =

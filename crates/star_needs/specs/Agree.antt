@@ -7,19 +7,19 @@ use Rattle.star_plan.specs.Results.{AreGood}
 use Rattle.star_plan.specs.Runs.{run_by_names}
 use Rattle.star_tree.specs.declared.tree.Statement.{Statement}
 
--- two plans agree on these files, which are all that they need. The plans have the same steps and the same prelude.
+-- two plans agree on these files, which are all that they need. The plans have the same mode and the same prelude.
 -- Each of these files was read and has the same reading in both, and all that it loads is among them
 pub record AgreeAmong (is_in : ℕ → Bool) (p q : Plan) : Type 0 where
-  pub steps : p.steps ≡ q.steps
+  pub mode : p.mode ≡ q.mode
   pub prelude : p.prelude ≡ q.prelude
   pub reads : (n : ℕ) → is_in n ≡ true → read_of p n ≡ read_of q n
   pub closed : (n m : ℕ) → is_in n ≡ true → Loads (loaded p) n m → is_in m ≡ true
   pub read : (n : ℕ) → is_in n ≡ true → (r : Reading) × (read_of p n ≡ Some r)
 
--- a plan is part of another: it has the same steps and the same prelude, and the readings of some of its files, with
+-- a plan is part of another: it has the same mode and the same prelude, and the readings of some of its files, with
 -- each file all that it loads
 pub record IsPartOf (part whole : Plan) : Type 0 where
-  pub steps : part.steps ≡ whole.steps
+  pub mode : part.mode ≡ whole.mode
   pub prelude : part.prelude ≡ whole.prelude
   pub reads : (n : ℕ) (r : Reading) → read_of part n ≡ Some r → read_of whole n ≡ Some r
   pub closed : (n m : ℕ) (r : Reading) → read_of part n ≡ Some r → Loads (loaded part) n m → (x : Reading)

@@ -107,10 +107,10 @@ pub record SharesLoads (p q : Plan) (n m : ℕ) : Type 0 where
       → same_data one.cells other.cells m most_levels v ≡ true
 
 -- two plans agree on these files, of which the prelude is one, but for what these load of others, which have changed.
--- The plans have the same steps and the same prelude. Each of these files was read and has the same reading in both,
+-- The plans have the same mode and the same prelude. Each of these files was read and has the same reading in both,
 -- and what it loads of a changed file is the same data in both
 pub record AgreeButFor (is_in : ℕ → Bool) (p q : Plan) : Type 0 where
-  pub steps : p.steps ≡ q.steps
+  pub mode : p.mode ≡ q.mode
   pub prelude : p.prelude ≡ q.prelude
   pub prelude_in : (k : ℕ) → p.prelude ≡ Some k → is_in k ≡ true
   pub reads : (n : ℕ) → is_in n ≡ true → read_of p n ≡ read_of q n

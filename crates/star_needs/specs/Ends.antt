@@ -1,5 +1,6 @@
 -- The end and the loads of a file for all roots, and files with some of the same texts.
 use Rattle.std.specs.Prelude.{◌≡◌, ℕ, Bool, true, List, map, Option, Some, Contains}
+use Rattle.star_dialect.specs.declared.Mode.{Mode}
 use Rattle.star_label.specs.Files.{File, text_at}
 use Rattle.star_scope.specs.declared.program.Prelude.{Prelude}
 use Rattle.star_plan.specs.Plan.{Plan, Reading, loads_in}
@@ -9,19 +10,19 @@ use Rattle.star_outcome.specs.Views.{IsBody, IsEnd}
 use Rattle.star_outcome.specs.declared.module.Body.{Body}
 use Rattle.star_outcome.specs.declared.module.Ended.{Ended}
 
--- a fact holds in each plan of these files that has this prelude and these steps and reaches the file n, whatever its
+-- a fact holds in each plan of these files that has this prelude and this mode and reaches the file n, whatever its
 -- roots
-abbrev pub InEachPlan : List File → Option ℕ → ℕ → ℕ → (Plan → Type 0) → Type 0
-InEachPlan files prelude steps n P =
-    (plan : Plan) → IsPlanOf files plan → plan.prelude ≡ prelude → plan.steps ≡ steps → IsReached plan n → P plan
+abbrev pub InEachPlan : List File → Option ℕ → Mode → ℕ → (Plan → Type 0) → Type 0
+InEachPlan files prelude mode n P =
+    (plan : Plan) → IsPlanOf files plan → plan.prelude ≡ prelude → plan.mode ≡ mode → IsReached plan n → P plan
 
 -- the module of the file n has this end in each of these plans
-abbrev pub IsEndUnder : List File → Option ℕ → ℕ → ℕ → Ended → Type 0
-IsEndUnder files prelude steps n e = InEachPlan files prelude steps n (λ plan. IsEnd plan n e)
+abbrev pub IsEndUnder : List File → Option ℕ → Mode → ℕ → Ended → Type 0
+IsEndUnder files prelude mode n e = InEachPlan files prelude mode n (λ plan. IsEnd plan n e)
 
 -- .. or ends well, with this body
-abbrev pub IsBodyUnder : List File → Option ℕ → ℕ → ℕ → Body → Type 0
-IsBodyUnder files prelude steps n b = InEachPlan files prelude steps n (λ plan. IsBody plan n b)
+abbrev pub IsBodyUnder : List File → Option ℕ → Mode → ℕ → Body → Type 0
+IsBodyUnder files prelude mode n b = InEachPlan files prelude mode n (λ plan. IsBody plan n b)
 
 -- the file n of these files, with this prelude, loads these files, in order: each reading of it says so
 abbrev pub AreLoadsUnder : List File → Option ℕ → ℕ → List ℕ → Type 0

@@ -2,6 +2,7 @@
 -- text. They do not depend on the roots, nor on any other text.
 use Rattle.std.specs.Prelude.{◌≡◌, ◌↔◌, ℕ, Bool, true, List, Option}
 use Rattle.star_cache.specs.State.{Loads}
+use Rattle.star_dialect.specs.declared.Mode.{Mode}
 use Rattle.star_label.specs.Files.{File, IsOrdered}
 use Rattle.star_scope.specs.declared.program.Prelude.{Prelude}
 use Rattle.star_plan.specs.Plan.{Plan, Reading, loaded, read_of}
@@ -31,23 +32,23 @@ OneReadingByTexts =
 abbrev pub OneEndByTexts : Type 0
 OneEndByTexts =
     (files others : List File) (p q : Plan) (is_in : ℕ → Bool) → IsOrdered files → IsPlanOf files p → IsPlanOf others q
-    → p.prelude ≡ q.prelude → p.steps ≡ q.steps → HaveSame is_in p.prelude files others
+    → p.prelude ≡ q.prelude → p.mode ≡ q.mode → HaveSame is_in p.prelude files others
     → ((n m : ℕ) → is_in n ≡ true → Loads (loaded p) n m → is_in m ≡ true)
     → (n : ℕ) → is_in n ≡ true → IsReached p n → IsReached q n → (e : Ended) → IsEnd p n e ↔ IsEnd q n e
 
 -- ---- of files, whatever the roots
 
--- the end of a file in one plan is its end in each plan of the same files, prelude and steps
+-- the end of a file in one plan is its end in each plan of the same files, prelude and mode
 abbrev pub EndsForAllRoots : Type 0
 EndsForAllRoots =
     (files : List File) (plan : Plan) → IsOrdered files → IsPlanOf files plan → (n : ℕ) (e : Ended) → IsReached plan n
-    → IsEnd plan n e → IsEndUnder files plan.prelude plan.steps n e
+    → IsEnd plan n e → IsEndUnder files plan.prelude plan.mode n e
 
 -- .. so is its body
 abbrev pub BodiesForAllRoots : Type 0
 BodiesForAllRoots =
     (files : List File) (plan : Plan) → IsOrdered files → IsPlanOf files plan → (n : ℕ) (b : Body) → IsReached plan n
-    → IsBody plan n b → IsBodyUnder files plan.prelude plan.steps n b
+    → IsBody plan n b → IsBodyUnder files plan.prelude plan.mode n b
 
 -- .. and its loads
 abbrev pub LoadsForAllRoots : Type 0
@@ -58,8 +59,8 @@ LoadsForAllRoots =
 -- loads of a file are those that it has in each plan
 abbrev pub LoadsInPlans : Type 0
 LoadsInPlans =
-    (files : List File) (prelude : Option ℕ) (steps n : ℕ) (loads : List ℕ) → AreLoadsUnder files prelude n loads
-    → InEachPlan files prelude steps n (λ plan. loads ≡ loaded plan n)
+    (files : List File) (prelude : Option ℕ) (mode : Mode) (n : ℕ) (loads : List ℕ) → AreLoadsUnder files prelude n loads
+    → InEachPlan files prelude mode n (λ plan. loads ≡ loaded plan n)
 
 -- ---- of files that change
 
@@ -78,16 +79,16 @@ LoadsStay =
     → AreLoadsUnder others prelude n loads
 
 -- a fact of files that have among them all that they load stays, if the labels, their texts and the prelude's stay
-abbrev pub Stays : (List File → Option ℕ → ℕ → ℕ → Type 0) → Type 0
+abbrev pub Stays : (List File → Option ℕ → Mode → ℕ → Type 0) → Type 0
 Stays P =
-    (files others : List File) (prelude : Option ℕ) (steps : ℕ) (is_in : ℕ → Bool) → IsOrdered files
+    (files others : List File) (prelude : Option ℕ) (mode : Mode) (is_in : ℕ → Bool) → IsOrdered files
     → HaveSame is_in prelude files others → IsClosed files prelude is_in
-    → (n : ℕ) → is_in n ≡ true → P files prelude steps n → P others prelude steps n
+    → (n : ℕ) → is_in n ≡ true → P files prelude mode n → P others prelude mode n
 
 -- so the ends of files stay
 abbrev pub EndsStay : Type 0
-EndsStay = (e : Ended) → Stays (λ files prelude steps n. IsEndUnder files prelude steps n e)
+EndsStay = (e : Ended) → Stays (λ files prelude mode n. IsEndUnder files prelude mode n e)
 
 -- .. and their bodies
 abbrev pub BodiesStay : Type 0
-BodiesStay = (b : Body) → Stays (λ files prelude steps n. IsBodyUnder files prelude steps n b)
+BodiesStay = (b : Body) → Stays (λ files prelude mode n. IsBodyUnder files prelude mode n b)

@@ -60,7 +60,7 @@ pub fn one_end_by_texts()
     ensures { OneEndByTexts }
 {}
 
-/// The end of a file in one plan is its end in each plan of the same files, prelude and steps that reaches it, whatever
+/// The end of a file in one plan is its end in each plan of the same files, prelude and mode that reaches it, whatever
 /// the roots.
 pub fn ends_for_all_roots()
     ensures { EndsForAllRoots }

@@ -199,7 +199,7 @@ of_result plan d n shelf globals texts lines is =
     let from = result-from plan d n (Good shelf globals texts lines) is in
     let sound = result-sound plan (suc d) n (Good shelf globals texts lines) is in
     local_named (given plan n from.0) (run_by_names plan n sound.0 from.0) shelf globals texts lines
-    (run_named (by_names (given plan n from.0)) (given plan n from.0) most_levels sound.0 (start (given plan n from.0) plan.steps) (file_free (trees plan) n))
+    (run_named (by_names (given plan n from.0)) (given plan n from.0) most_levels sound.0 (start (given plan n from.0) plan.mode.steps) (file_free (trees plan) n))
     (ran-is plan n sound.0 from.0 sound.1 ∙ from.2)
 
 at_depth : (plan : Plan) (d n : ℕ) (shelf : Shelf) (globals : List (List ℕ × Value)) (texts : List (List ℕ × List ℕ)) (lines : List (List ℕ)) → result plan d n ≡ Some (Good shelf globals texts lines) → GoodNamed globals texts

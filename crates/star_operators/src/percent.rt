@@ -1,6 +1,6 @@
 //! `%` on a string: walks over the format, letter by letter.
 
-ghost use Rattle.std.specs.Prelude.{◌≡◌, [], false, IfOk, string_bytes};
+ghost use Rattle.std.specs.Prelude.{◌≡◌, [], false, IfOk};
 ghost use Rattle.star_machine.specs.Refines.{Refines};
 ghost use Rattle.star_operators.specs.Fills.{Fills, letter_put, percent_of};
 ghost use Rattle.star_meaning.specs.Percent as spec;
@@ -13,11 +13,12 @@ use star_machine::machine::Machine;
 use star_machine::setting::Setting;
 use star_meaning::fault::FaultCode;
 use star_store::values::{Cell, Value};
-use star_text::Text;
+use star_visit::draft::Draft;
 use std::alloc::AllocError;
 
 /// The text of one value for a letter: `s` and `r` make its two texts, `d` the text of an int. `BadValue` for another
-/// letter, `BadType` for `d` if the value is not an int.
+/// letter, `BadType` for `d` if the value is not an int. It is a draft, in which at most about `room` bytes of long
+/// strings are copied.
 fn format_letter(
     machine: &mut Machine,
     setting: &Setting,
@@ -25,15 +26,16 @@ fn format_letter(
     line: usize,
     letter: u8,
     value: Value,
-) -> Result<Text, EvalError>
+    room: usize,
+) -> Result<Draft, EvalError>
     ensures { Refines (spec.format_letter setting.now levels line letter value machine.old) result machine.new }
 {
     match letter {
-        b's' => machine.str(setting, levels, line, value),
-        b'r' => machine.repr(setting, levels, line, value),
+        b's' => machine.str(setting, levels, line, value, room),
+        b'r' => machine.repr(setting, levels, line, value, room),
         b'd' => {
             let _int = machine.want_int(setting, line, value)?;
-            machine.repr(setting, levels, line, value)
+            machine.repr(setting, levels, line, value, room)
         }
         _ => Err(fault_at(FaultCode::BadValue, line)),
     }
@@ -46,22 +48,23 @@ fn put_letter<'v>(
     setting: &Setting,
     levels: u32,
     line: usize,
-    out: &mut String,
+    out: &mut Draft,
     letter: u8,
     values: &'v [Value],
 ) -> Result<&'v [Value], EvalError>
-    ensures { Fills (letter_put setting.now levels line letter values.now (string_bytes out.old) machine.old) result
-        (string_bytes out.new) machine.new }
+    ensures { Fills (letter_put setting.now levels line letter values.now out.old machine.old) result out.new
+        machine.new }
 {
     if letter == b'%' {
-        out.push('%')?;
+        out.say("%")?;
         return Ok(values);
     }
     let Some((value, left)) = values.split_first() else {
         return Err(fault_at(FaultCode::BadValue, line));
     };
-    let text = format_letter(machine, setting, levels, line, letter, *value)?;
-    out.push_str(text.as_str())?;
+    let room = out.room();
+    let text = format_letter(machine, setting, levels, line, letter, *value, room)?;
+    out.put_draft(text)?;
     Ok(left)
 }
 
@@ -75,26 +78,26 @@ fn filled(
     line: usize,
     format: &str,
     values: &[Value],
-) -> Result<Text, EvalError>
+) -> Result<Draft, EvalError>
     ensures { Refines (spec.filled setting.now levels line false format.now values.now [] machine.old)
         result machine.new }
 {
-    let mut out = String::new(machine.alloc());
+    let mut out = Draft::new(machine.alloc(), machine.steps_left() as usize);
     let mut rest = format;
     let mut left = values;
     while let Some((before, _percent, after)) = cut_at(rest, b'%', b'%') {
-        out.push_str(before)?;
+        out.say(before)?;
         let Some((letter, more)) = first_ascii(after) else {
             return Err(fault_at(FaultCode::BadValue, line));
         };
         left = put_letter(machine, setting, levels, line, &mut out, letter, left)?;
         rest = more;
     }
-    out.push_str(rest)?;
+    out.say(rest)?;
     if !left.is_empty() {
         return Err(fault_at(FaultCode::BadValue, line));
     }
-    Ok(Text::of(out)?)
+    Ok(out)
 }
 
 /// The values that are put in: a tuple's items, else the one value.
@@ -107,7 +110,8 @@ fn put_in(machine: &Machine, setting: &Setting, value: Value) -> Result<Vec<Valu
     Vec::from_slice(machine.alloc(), &[value])
 }
 
-/// `text % value`: the bytes of the string are paid, then the texts are made, then the new string is paid.
+/// `text % value`: the bytes of the string are paid, then the texts are made, then the new string is paid, and it is built
+/// only if that can be paid.
 pub fn percent(
     machine: &mut Machine,
     setting: &Setting,
@@ -122,5 +126,5 @@ pub fn percent(
     let values = put_in(machine, setting, value)?;
     machine.pay(line, format.as_str().len() as u128)?;
     let made = filled(machine, setting, levels, line, format.as_str(), &values)?;
-    machine.new_text(line, made)
+    machine.new_draft(line, made)
 }

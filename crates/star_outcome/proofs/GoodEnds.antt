@@ -131,8 +131,8 @@ in_plans ks es own plan are n e at = turn (own n e at)
         ((are.reached n).1 among, end_is_good plan n m e (subst (λ x. IsModule plan x m) file is) end, end.fresh)
 
 pub ends_again : (ks : List KeptView) (es : List (Option GoodEnd)) → AreEndsAmong ks es → AreEndsAgain ks es
-ends_again ks es own files roots prelude steps ordered of_files plan planned of_roots of_prelude of_steps n e at reached =
+ends_again ks es own files roots prelude mode ordered of_files plan planned of_roots of_prelude of_mode n e at reached =
     let p = of_files.0 in
-    let same : p ≡ plan = one-plan files ordered p plan of_files.1 planned (of_files.2 ∙ sym of_roots) (of_files.3 ∙ sym of_prelude) (of_files.4 ∙ sym of_steps) in
+    let same : p ≡ plan = one-plan files ordered p plan of_files.1 planned (of_files.2 ∙ sym of_roots) (of_files.3 ∙ sym of_prelude) (of_files.4 ∙ sym of_mode) in
     let are : AreModules plan ks = subst (λ x. AreModules x ks) same of_files.5 in
     (in_plans ks es own plan are n e at).1

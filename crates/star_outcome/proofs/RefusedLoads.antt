@@ -2,6 +2,7 @@
 use Rattle.std.proofs.Common.{◌≡◌, ◌<◌, ℕ, List, [], ◌∷◌, ◌++◌, Option, None, Some, All, length, take, map, refl}
 use Rattle.std.specs.Prelude.{slice_get}
 use Rattle.std.proofs.lemmas.List.Elements.{All-append, All-take, All-weaker}
+use Rattle.star_dialect.specs.declared.Mode.{Mode}
 use Rattle.star_label.specs.Files.{File}
 use Rattle.star_scope.specs.declared.loads.Load.{Load}
 use Rattle.star_plan.specs.Plan.{Plan, Reading, loads_in, read_of}
@@ -30,13 +31,13 @@ refused_files files plan of r is =
     let reached : IsReached plan r.file = (of.reached r.file).1 (has_read (read_of plan r.file) r.index r.loaded is.there) in
     (reached_is_file files plan of r.file reached, reached_is_file files plan of r.loaded (load reached is.cycle.0))
 
-pub all_files : (files : List File) (roots : List ℕ) (prelude : Option ℕ) (steps : ℕ) (rs : List CyclicLoad) → AreRefusalsOf files roots prelude steps rs
+pub all_files : (files : List File) (roots : List ℕ) (prelude : Option ℕ) (mode : Mode) (rs : List CyclicLoad) → AreRefusalsOf files roots prelude mode rs
     → All (λ r. (r.file < length files) × (r.loaded < length files)) rs
-all_files files roots prelude steps rs of =
+all_files files roots prelude mode rs of =
     All-weaker (IsRefusal of.0) (AreFiles files) (refused_files files of.0 of.1) rs of.5
 
 -- the first few of refused loads are refused loads
-pub first_refused : (files : List File) (roots : List ℕ) (prelude : Option ℕ) (steps : ℕ) (rs : List CyclicLoad) (count : ℕ)
-    → AreRefusalsOf files roots prelude steps rs → AreRefusalsOf files roots prelude steps (take count rs)
-first_refused files roots prelude steps rs count of =
+pub first_refused : (files : List File) (roots : List ℕ) (prelude : Option ℕ) (mode : Mode) (rs : List CyclicLoad) (count : ℕ)
+    → AreRefusalsOf files roots prelude mode rs → AreRefusalsOf files roots prelude mode (take count rs)
+first_refused files roots prelude mode rs count of =
     (of.0, of.1, of.2, of.3, of.4, All-take (IsRefusal of.0) count rs of.5)

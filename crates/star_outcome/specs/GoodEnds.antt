@@ -1,6 +1,7 @@
 -- The ends of files whose runs went well, as a caller may keep them after a run.
 use Rattle.std.specs.Arc.{arc_value}
 use Rattle.std.specs.Prelude.{◌≡◌, ◌⊎◌, ℕ, true, false, All, Contains, List, Option, Some, None, Any, slice_get, slice_set}
+use Rattle.star_dialect.specs.declared.Mode.{Mode}
 use Rattle.star_label.specs.Files.{File, IsOrdered}
 use Rattle.star_plan.specs.Plan.{Plan, loaded}
 use Rattle.star_plan.specs.Reached.{IsReached}
@@ -50,10 +51,10 @@ AreReachedEnds plan es =
     (n : ℕ) (e : GoodEnd) → slice_get es n ≡ Some (Some e)
     → IsReached plan n × IsGoodEnd plan n e × (e.is_stale ≡ false)
 
--- they are good ends in the plan with these files, roots, prelude and steps
-abbrev pub AreGoodEndsOf : List File → List ℕ → Option ℕ → ℕ → List (Option GoodEnd) → Type 0
-AreGoodEndsOf files roots prelude steps es =
-    (plan : Plan) → IsPlanOf files plan → plan.roots ≡ roots → plan.prelude ≡ prelude → plan.steps ≡ steps
+-- they are good ends in the plan with these files, roots, prelude and mode
+abbrev pub AreGoodEndsOf : List File → List ℕ → Option ℕ → Mode → List (Option GoodEnd) → Type 0
+AreGoodEndsOf files roots prelude mode es =
+    (plan : Plan) → IsPlanOf files plan → plan.roots ≡ roots → plan.prelude ≡ prelude → plan.mode ≡ mode
     → AreGoodEnds plan es
 
 -- the body of a file whose run went well
@@ -93,8 +94,8 @@ HaveEnd es k =
 abbrev pub AreEndsInPlans : List KeptView → List (Option GoodEnd) → Type 0
 AreEndsInPlans ks es = (plan : Plan) → AreModules plan ks → AreReachedEnds plan es
 
--- and they are the good ends of the files, with the roots, the prelude and the steps
+-- and they are the good ends of the files, with the roots, the prelude and the mode
 abbrev pub AreEndsAgain : List KeptView → List (Option GoodEnd) → Type 0
 AreEndsAgain ks es =
-    (files : List File) (roots : List ℕ) (prelude : Option ℕ) (steps : ℕ) → IsOrdered files
-    → AreModulesOf files roots prelude steps ks → AreGoodEndsOf files roots prelude steps es
+    (files : List File) (roots : List ℕ) (prelude : Option ℕ) (mode : Mode) → IsOrdered files
+    → AreModulesOf files roots prelude mode ks → AreGoodEndsOf files roots prelude mode es

@@ -1,6 +1,7 @@
 -- The modules of a run, and the notes that know them.
 use Rattle.std.specs.Prelude.{◌≡◌, ◌<◌, ◌↔◌, ℕ, true, List, Option, Some, All, Contains, length, map, slice_index, slice_index_or}
 use Rattle.std.specs.List.Sorted.{IsStrictlyIncreasing}
+use Rattle.star_dialect.specs.declared.Mode.{Mode}
 use Rattle.star_label.specs.Files.{File}
 use Rattle.star_plan.specs.Plan.{Plan}
 use Rattle.star_plan.specs.Reached.{IsReached}
@@ -64,10 +65,10 @@ pub record AreModules (plan : Plan) (ks : List KeptView) : Type 0 where
   pub reached : (n : ℕ) → IsReached plan n ↔ Contains (map (λ k. k.number) ks) n
   pub each : All (λ k. (m : Module) × (k.known ≡ Some m) × IsModule plan k.number m) ks
 
--- these know the modules of exactly the reached files of the plan with these files, roots, prelude and steps
-abbrev pub AreModulesOf : List File → List ℕ → Option ℕ → ℕ → List KeptView → Type 0
-AreModulesOf files roots prelude steps ks =
-    (plan : Plan) × IsPlanOf files plan × (plan.roots ≡ roots) × (plan.prelude ≡ prelude) × (plan.steps ≡ steps)
+-- these know the modules of exactly the reached files of the plan with these files, roots, prelude and mode
+abbrev pub AreModulesOf : List File → List ℕ → Option ℕ → Mode → List KeptView → Type 0
+AreModulesOf files roots prelude mode ks =
+    (plan : Plan) × IsPlanOf files plan × (plan.roots ≡ roots) × (plan.prelude ≡ prelude) × (plan.mode ≡ mode)
     × AreModules plan ks
 
 -- a note that knows a module which is good

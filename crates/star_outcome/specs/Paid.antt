@@ -17,4 +17,4 @@ pub record HasPaid (plan : Plan) (n paid : ℕ) : Type 0 where
   pub sound : tree_in (read_of plan n) ≡ Some statements
   pub good : AreGood plan (loaded plan n) outcomes
   pub run : run_by_names plan n statements outcomes ≡ Done ended state
-  pub steps : paid ≡ plan.steps - state.steps
+  pub steps : paid ≡ plan.mode.steps - state.steps

@@ -1,5 +1,6 @@
 -- The loads that are refused.
 use Rattle.std.specs.Prelude.{◌≡◌, ℕ, All, List, Option, Some, slice_get}
+use Rattle.star_dialect.specs.declared.Mode.{Mode}
 use Rattle.star_cache.specs.State.{Loads}
 use Rattle.star_cache.specs.Walk.{IsOnCycle}
 use Rattle.star_label.specs.Files.{File}
@@ -16,8 +17,8 @@ pub record IsRefusal (plan : Plan) (r : CyclicLoad) : Type 0 where
 abbrev pub AreRefusals : Plan → List CyclicLoad → Type 0
 AreRefusals plan rs = All (IsRefusal plan) rs
 
--- each is such a load in the plan with these files, roots, prelude and steps
-abbrev pub AreRefusalsOf : List File → List ℕ → Option ℕ → ℕ → List CyclicLoad → Type 0
-AreRefusalsOf files roots prelude steps rs =
-    (plan : Plan) × IsPlanOf files plan × (plan.roots ≡ roots) × (plan.prelude ≡ prelude) × (plan.steps ≡ steps)
+-- each is such a load in the plan with these files, roots, prelude and mode
+abbrev pub AreRefusalsOf : List File → List ℕ → Option ℕ → Mode → List CyclicLoad → Type 0
+AreRefusalsOf files roots prelude mode rs =
+    (plan : Plan) × IsPlanOf files plan × (plan.roots ≡ roots) × (plan.prelude ≡ prelude) × (plan.mode ≡ mode)
     × AreRefusals plan rs

@@ -1,6 +1,7 @@
 //! The identity of one run, which only contracts see.
 
 ghost use Rattle.std.specs.Prelude.{ℕ, List, [], None};
+ghost use Rattle.star_dialect.specs.declared.Dialect.TheVariants.{Core};
 ghost use Rattle.star_label.specs.Files.{File};
 ghost use Rattle.star_plan.specs.Plan.{Plan};
 
@@ -11,7 +12,7 @@ use std::sync::ledger::Ledger;
 pub trait RunId: Ledger {
     ghost files: { List File };
 
-    // the roots, the prelude, the steps, and the result of reading each file
+    // the roots, the prelude, the mode, and the result of reading each file
     ghost plan: { Plan };
 
     // the names of the shelf's cells
@@ -21,7 +22,7 @@ pub trait RunId: Ledger {
 impl RunId for Brand {
     ghost files = { [] };
 
-    ghost plan = { record { roots = []; prelude = None; steps = 1; reads = [] } };
+    ghost plan = { record { roots = []; prelude = None; mode = record { steps = 1; dialect = Core }; reads = [] } };
 
     ghost shelf = { [] };
 }

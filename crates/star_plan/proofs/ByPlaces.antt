@@ -23,7 +23,7 @@ plans_fit files plan placed is placed_so n ss ms e g =
 pub plans_run_by_places : PlansRunByPlaces
 plans_run_by_places files plan placed is placed_so n ss ms e g =
     let sound : PreludeIsSound plan = prelude_sound files plan n ss ms is e g in
-    let same : run_by_places placed plan n ss ms ≡ run_by_names plan n ss ms = (places_mean_names (tables_of placed) (trees plan) (given plan n ms) ss plan.steps refl (stands plan n ss e) (tables_right files plan placed is placed_so sound n ms) (plans_fit files plan placed is placed_so n ss ms e g)).0 in
+    let same : run_by_places placed plan n ss ms ≡ run_by_names plan n ss ms = (places_mean_names (tables_of placed) (trees plan) (given plan n ms) ss plan.mode.steps refl (stands plan n ss e) (tables_right files plan placed is placed_so sound n ms) (plans_fit files plan placed is placed_so n ss ms e g)).0 in
     let comes : local_of (given plan n ms) (run_by_places placed plan n ss ms) ≡ ran plan n ms = ap (local_of (given plan n ms)) same ∙ ran-is plan n ss ms e in
     (same, comes, subst (λ m. IsOutcome plan n (Ran m)) (sym comes) (runs-over_loads plan n ss ms e g))
 
@@ -34,6 +34,6 @@ plans_are_ready files plan placed is placed_so n ss ms e g =
     let comes : local_of (given plan n ms) (run_by_names plan n ss ms) ≡ ran plan n ms = ran-is plan n ss ms e in (
       subst (λ (t : Trees). Stands t n ss) same (stands plan n ss e),
       are_programs files plan placed is placed_so sound,
-      subst (λ (t : Trees). AllFit t (given plan n ms) (start (given plan n ms) plan.steps)) same (plans_fit files plan placed is placed_so n ss ms e g),
+      subst (λ (t : Trees). AllFit t (given plan n ms) (start (given plan n ms) plan.mode.steps)) same (plans_fit files plan placed is placed_so n ss ms e g),
       subst (λ m. IsOutcome plan n (Ran m)) (sym comes) (runs-over_loads plan n ss ms e g),
     )

@@ -33,7 +33,7 @@ Right plan tables = (n : ℕ) (ms : List Local) (file : ℕ) (ss : List Statemen
 
 -- all functions fit before the run of each file whose loads are good at a depth
 abbrev pub FitAt : Plan → ℕ → Type 0
-FitAt plan d = (n : ℕ) (ms : List Local) → all_good (map (result plan d) (loaded plan n)) ≡ Some ms → AllFit (trees plan) (given plan n ms) (start (given plan n ms) plan.steps)
+FitAt plan d = (n : ℕ) (ms : List Local) → all_good (map (result plan d) (loaded plan n)) ≡ Some ms → AllFit (trees plan) (given plan n ms) (start (given plan n ms) plan.mode.steps)
 
 pub same_number : (m n : ℕ) → m ≡ n → nat_eq m n ≡ true
 same_number m n e = grind (arith, e)
@@ -110,7 +110,7 @@ not_published plan d n ms k m s (Some q) e = absurd (not_back plan d n ms k m s 
 pub is_loaded : (plan : Plan) (d n : ℕ) (ms : List Local) (k : ℕ) (m : Local) (s : Source plan d n ms k m) → Loaded (given plan k s.outcomes) s.run.state (given plan n ms)
 is_loaded plan d n ms k m s = record {
   outlines = refl;
-  home = ends_at_home (given plan k s.outcomes) s.statements plan.steps s.run.ended s.run.state s.run.done;
+  home = ends_at_home (given plan k s.outcomes) s.statements plan.mode.steps s.run.ended s.run.state s.run.done;
   own = (own plan d n ms k m s, published_too plan d n ms k m s k (own plan d n ms k m s) (own_there plan d n ms k m s), refl);
   others = λ j q e. published_too plan d n ms k m s j q (kept plan d n ms k m s j q (flat_is (slice_get (union (map reached s.outcomes)) j) q e));
   apart = not_same plan d n ms k m s;
@@ -132,11 +132,11 @@ pub seen_there : (plan : Plan) (d n : ℕ) (ms : List Local) (k : ℕ) (m : Loca
     → seen (given plan k s.outcomes) s.run.state (value.Ref home at) ≡ Some c
 seen_there plan d n ms k m s home p there at c here =
     let shelf : Shelf = union (map reached s.outcomes) in
-    seen_on shelf s.run.state k home (own plan d n ms k m s) p at c (ends_at_home (given plan k s.outcomes) s.statements plan.steps s.run.ended s.run.state s.run.done) refl (not_own plan d k s.outcomes s.below)
+    seen_on shelf s.run.state k home (own plan d n ms k m s) p at c (ends_at_home (given plan k s.outcomes) s.statements plan.mode.steps s.run.ended s.run.state s.run.done) refl (not_own plan d k s.outcomes s.below)
     (from_put (is_taken (slice_get shelf k)) k (own plan d n ms k m s) shelf home p (subst (λ x. slice_get x home ≡ Some (Some p)) s.run.shelf there)) here
 
 -- a cell that a file sees was seen at the end of a load's run
-pub seen_before : (plan : Plan) (d n : ℕ) (ms : List Local) → all_good (map (result plan (suc d)) (loaded plan n)) ≡ Some ms → (v : Value) (c : Cell) → seen (given plan n ms) (start (given plan n ms) plan.steps) v ≡ Some c
+pub seen_before : (plan : Plan) (d n : ℕ) (ms : List Local) → all_good (map (result plan (suc d)) (loaded plan n)) ≡ Some ms → (v : Value) (c : Cell) → seen (given plan n ms) (start (given plan n ms) plan.mode.steps) v ≡ Some c
     → (k : ℕ) × (m : Local) × (s : Source plan d n ms k m) × (seen (given plan k s.outcomes) s.run.state v ≡ Some c)
 seen_before plan d n ms all (value.Ref home at) c e =
     let found = found_in (nat_eq home n) (slice_get (union (map reached ms)) home) at c e in
@@ -146,7 +146,7 @@ seen_before plan d n ms all (value.Ref home at) c e =
 seen_before plan d n ms all _ c e = absurd (let no : ⊥ = cc in no)
 
 -- at depth 0 no load is good, so that nothing is seen
-pub none_seen : (plan : Plan) (n : ℕ) (ms : List Local) → all_good (map (result plan zero) (loaded plan n)) ≡ Some ms → (v : Value) (c : Cell) → seen (given plan n ms) (start (given plan n ms) plan.steps) v ≡ Some c → ⊥
+pub none_seen : (plan : Plan) (n : ℕ) (ms : List Local) → all_good (map (result plan zero) (loaded plan n)) ≡ Some ms → (v : Value) (c : Cell) → seen (given plan n ms) (start (given plan n ms) plan.mode.steps) v ≡ Some c → ⊥
 none_seen plan n ms all (value.Ref home at) c e =
     let found = found_in (nat_eq home n) (slice_get (union (map reached ms)) home) at c e in
     let one = from_loads (result plan zero) (loaded plan n) ms all home found.0 found.1 in
@@ -156,12 +156,12 @@ none_seen plan n ms all _ c e = let no : ⊥ = cc in no
 -- after the load's run all functions fit
 fits_after : (plan : Plan) (tables : Tables) → Right plan tables → (d n : ℕ) (ms : List Local) (k : ℕ) (m : Local) (s : Source plan d n ms k m) → FitAt plan d → AllFit (trees plan) (given plan k s.outcomes) s.run.state
 fits_after plan tables right d n ms k m s fit =
-    let after = places_mean_names tables (trees plan) (given plan k s.outcomes) s.statements plan.steps refl (stands plan k s.statements s.sound) (right k s.outcomes) (fit k s.outcomes s.below) in
+    let after = places_mean_names tables (trees plan) (given plan k s.outcomes) s.statements plan.mode.steps refl (stands plan k s.statements s.sound) (right k s.outcomes) (fit k s.outcomes s.below) in
     subst (FitAfter (trees plan) (given plan k s.outcomes)) s.run.done after.1
 
 -- a function that a file sees was seen by a load, after whose run all functions fit
 was_seen : (plan : Plan) (tables : Tables) → Right plan tables → (d n : ℕ) (ms : List Local) → all_good (map (result plan (suc d)) (loaded plan n)) ≡ Some ms → FitAt plan d
-    → (v : Value) (f : Function) → seen (given plan n ms) (start (given plan n ms) plan.steps) v ≡ Some (cell.Func f)
+    → (v : Value) (f : Function) → seen (given plan n ms) (start (given plan n ms) plan.mode.steps) v ≡ Some (cell.Func f)
     → (u : Setting) × (t : State) × Loaded u t (given plan n ms) × AllFit (trees plan) u t × (seen u t v ≡ Some (cell.Func f))
 was_seen plan tables right d n ms all fit v f e =
     let it = seen_before plan d n ms all v (cell.Func f) e in
@@ -174,5 +174,5 @@ was_seen plan tables right d n ms all fit v f e =
     )
 
 pub fit_at : (plan : Plan) (tables : Tables) → Right plan tables → (d : ℕ) → FitAt plan d
-fit_at plan tables right zero = λ n ms all. loads_fit (trees plan) (given plan n ms) plan.steps (λ v f e. absurd (none_seen plan n ms all v (cell.Func f) e))
-fit_at plan tables right (suc d) = λ n ms all. loads_fit (trees plan) (given plan n ms) plan.steps (was_seen plan tables right d n ms all (fit_at plan tables right d))
+fit_at plan tables right zero = λ n ms all. loads_fit (trees plan) (given plan n ms) plan.mode.steps (λ v f e. absurd (none_seen plan n ms all v (cell.Func f) e))
+fit_at plan tables right (suc d) = λ n ms all. loads_fit (trees plan) (given plan n ms) plan.mode.steps (was_seen plan tables right d n ms all (fit_at plan tables right d))

@@ -129,11 +129,11 @@ module _ (files : List File) (ordered : IsOrdered files) (p q : Plan) (a : IsPla
       let other = (b.reached n).0 (reached_too n ((a.reached n).1 (r, x))) in
       other.1 ∙ ap Some (sym (same_read n r other.0 x other.1))
 
-pub one-plan : (files : List File) → IsOrdered files → (p q : Plan) → IsPlanOf files p → IsPlanOf files q → p.roots ≡ q.roots → p.prelude ≡ q.prelude → p.steps ≡ q.steps → p ≡ q
-one-plan files ordered p q a b roots prelude steps =
+pub one-plan : (files : List File) → IsOrdered files → (p q : Plan) → IsPlanOf files p → IsPlanOf files q → p.roots ≡ q.roots → p.prelude ≡ q.prelude → p.mode ≡ q.mode → p ≡ q
+one-plan files ordered p q a b roots prelude mode =
     let preludes : a.prelude ≡ b.prelude = one-prelude files q.prelude a.prelude b.prelude (subst (λ o. IsPrelude files o a.prelude) prelude a.prelude_is) b.prelude_is in
     let rows : p.reads ≡ q.reads = same_rows p.reads q.reads (a.size ∙ sym b.size) (read_too files ordered p q a b roots preludes) (read_too files ordered q p b a (sym roots) (sym preludes)) in
-    ap (λ z. let r : Plan = record { roots = z; prelude = p.prelude; steps = p.steps; reads = p.reads } in r) roots
-    ∙ (ap (λ z. let r : Plan = record { roots = q.roots; prelude = z; steps = p.steps; reads = p.reads } in r) prelude
-    ∙ (ap (λ z. let r : Plan = record { roots = q.roots; prelude = q.prelude; steps = z; reads = p.reads } in r) steps
-    ∙ ap (λ z. let r : Plan = record { roots = q.roots; prelude = q.prelude; steps = q.steps; reads = z } in r) rows))
+    ap (λ z. let r : Plan = record { roots = z; prelude = p.prelude; mode = p.mode; reads = p.reads } in r) roots
+    ∙ (ap (λ z. let r : Plan = record { roots = q.roots; prelude = z; mode = p.mode; reads = p.reads } in r) prelude
+    ∙ (ap (λ z. let r : Plan = record { roots = q.roots; prelude = q.prelude; mode = z; reads = p.reads } in r) mode
+    ∙ ap (λ z. let r : Plan = record { roots = q.roots; prelude = q.prelude; mode = q.mode; reads = z } in r) rows))

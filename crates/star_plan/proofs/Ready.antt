@@ -16,8 +16,8 @@ use Rattle.star_plan.proofs.Seen.{ran-is}
 
 same_setting : (plan : Plan) (placed : Files) (n : ℕ) (ms : List Local) (shelf : Shelf) → trees_of placed ≡ trees plan → shelf ≡ (given plan n ms).shelf → given_over placed plan n shelf ≡ given plan n ms
 same_setting plan placed n ms shelf trees_are shelf_is =
-    ap (λ (t : Trees). let w : Setting = record { home = n; outlines = outlines t; shelf = shelf; loads = load_files (loads_of plan n); prelude = plan.prelude } in w) trees_are
-    ∙ ap (λ (s : Shelf). let w : Setting = record { home = n; outlines = outlines (trees plan); shelf = s; loads = load_files (loads_of plan n); prelude = plan.prelude } in w) shelf_is
+    ap (λ (t : Trees). let w : Setting = record { home = n; outlines = outlines t; shelf = shelf; loads = load_files (loads_of plan n); prelude = plan.prelude; dialect = plan.mode.dialect } in w) trees_are
+    ∙ ap (λ (s : Shelf). let w : Setting = record { home = n; outlines = outlines (trees plan); shelf = s; loads = load_files (loads_of plan n); prelude = plan.prelude; dialect = plan.mode.dialect } in w) shelf_is
 
 pub files_may_run : FilesMayRun
 files_may_run files plan placed is placed_so n ss shelf e good tight holds =
@@ -28,8 +28,8 @@ files_may_run files plan placed is placed_so n ss shelf e good tight holds =
     record {
       stands = ready.0;
       programs = ready.1;
-      functions = subst (λ (w : Setting). AllFit (trees_of placed) w (start w plan.steps)) same ready.2;
-      outcome = subst (λ (w : Setting). IsOutcome plan n (Ran (local w plan.steps ss))) same ready.3;
+      functions = subst (λ (w : Setting). AllFit (trees_of placed) w (start w plan.mode.steps)) same ready.2;
+      outcome = subst (λ (w : Setting). IsOutcome plan n (Ran (local w plan.mode.steps ss))) same ready.3;
       own = λ p globals texts lines h. runs_leave_own plan n ss outcomes.0 e outcomes.1 p globals texts lines
-          (sym (ran-is plan n ss outcomes.0 e) ∙ (ap (λ (w : Setting). local w plan.steps ss) same ∙ (h ∙ ap (λ (s : Shelf). Good (put_up n p s) globals texts lines) same_shelf)));
+          (sym (ran-is plan n ss outcomes.0 e) ∙ (ap (λ (w : Setting). local w plan.mode.steps ss) same ∙ (h ∙ ap (λ (s : Shelf). Good (put_up n p s) globals texts lines) same_shelf)));
     }

@@ -13,6 +13,6 @@ one_text_of files plan a b (m, ms, x, is) (k, ks, y, also) =
     is ∙ (ap (λ z. report_text files z ms) same.0 ∙ (ap (report_text files k) same.1 ∙ sym also))
 
 pub one_text : OneText
-one_text files ordered p q is also roots prelude steps a b x y =
-    let same : p ≡ q = one-plan files ordered p q is also roots prelude steps in
+one_text files ordered p q is also roots prelude mode a b x y =
+    let same : p ≡ q = one-plan files ordered p q is also roots prelude mode in
     one_text_of files q a b (subst (λ z. IsReportText files z a) same x) y

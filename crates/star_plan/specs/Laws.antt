@@ -98,11 +98,11 @@ EachHasReport =
     (files : List File) (plan : Plan) → IsPlanOf files plan → (begun : ℕ) × (modules : List Module)
     × IsReport plan begun modules
 
--- files with their roots, their prelude and the steps have at most one text that is their report
+-- files with their roots, their prelude and their mode have at most one text that is their report
 abbrev pub OneText : Type 0
 OneText =
     (files : List File) → IsOrdered files → (p q : Plan) → IsPlanOf files p → IsPlanOf files q → p.roots ≡ q.roots
-    → p.prelude ≡ q.prelude → p.steps ≡ q.steps
+    → p.prelude ≡ q.prelude → p.mode ≡ q.mode
     → (a b : List ℕ) → IsReportText files p a → IsReportText files q b → a ≡ b
 
 -- readings of all roots and of all loads of files that were read, and of reached files alone, make a plan
@@ -116,11 +116,11 @@ ReadingsMakePlans =
     × (read_of plan m ≡ Some q))
     → IsPlanOf files plan
 
--- files have one plan for their roots, their prelude and the steps
+-- files have one plan for their roots, their prelude and their mode
 abbrev pub OnePlan : Type 0
 OnePlan =
     (files : List File) → IsOrdered files → (p q : Plan) → IsPlanOf files p → IsPlanOf files q → p.roots ≡ q.roots
-    → p.prelude ≡ q.prelude → p.steps ≡ q.steps → p ≡ q
+    → p.prelude ≡ q.prelude → p.mode ≡ q.mode → p ≡ q
 
 -- the outcome of a file without a static fault whose loads are good is the result of its run over theirs
 abbrev pub RunsOverLoads : Type 0
@@ -157,7 +157,7 @@ abbrev pub PlansFit : Type 0
 PlansFit = (files : List File) (plan : Plan) (placed : Files) → IsPlanOf files plan → ArePlaced files plan placed
     → (n : ℕ) (ss : List Statement) (ms : List Local) → tree_in (read_of plan n) ≡ Some ss
     → AreGood plan (loaded plan n) ms
-    → AllFit (trees plan) (given plan n ms) (start (given plan n ms) plan.steps)
+    → AllFit (trees plan) (given plan n ms) (start (given plan n ms) plan.mode.steps)
 
 -- a file without a static fault whose loads are good: its run by places, by the programs of the plan, is its run by
 -- names, and gives its outcome
@@ -214,8 +214,8 @@ PlansAreReady = (files : List File) (plan : Plan) (placed : Files) → IsPlanOf 
     → AreGood plan (loaded plan n) ms
     → Stands (trees_of placed) n ss
     × ArePrograms placed (given plan n ms).prelude
-    × AllFit (trees_of placed) (given plan n ms) (start (given plan n ms) plan.steps)
-    × IsOutcome plan n (Ran (local (given plan n ms) plan.steps ss))
+    × AllFit (trees_of placed) (given plan n ms) (start (given plan n ms) plan.mode.steps)
+    × IsOutcome plan n (Ran (local (given plan n ms) plan.mode.steps ss))
 
 -- a file without a static fault whose loads are good may run over each shelf that holds the own modules of the files
 -- that it needs, and no others

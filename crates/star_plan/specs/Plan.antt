@@ -1,6 +1,7 @@
--- A plan: the roots, the prelude, the steps, and the result of reading each file.
+-- A plan: the roots, the prelude, the mode, and the result of reading each file.
 use Rattle.std.specs.Prelude.{ℕ, List, [], map, Option, Some, None, slice_get}
 use Rattle.std.specs.Option.{option_flatten}
+use Rattle.star_dialect.specs.declared.Mode.{Mode}
 use Rattle.star_lex.specs.declared.token.SyntaxFault.{SyntaxFault}
 use Rattle.star_tree.specs.declared.tree.Statement.{Statement}
 use Rattle.star_scope.specs.declared.error.ScopeFault.{ScopeFault}
@@ -17,12 +18,12 @@ pub data Reading : Type 0 where
   Sound : List Statement → List Load → Reading
   Faulty : StaticFault → Reading
 
--- a plan: the roots, the prelude's file, the steps that each file has, and the read files, by number. It has nothing
+-- a plan: the roots, the prelude's file, the mode in which each file runs, and the read files, by number. It has nothing
 -- for a file that is not reached
 pub record Plan : Type 0 where
   pub roots : List ℕ
   pub prelude : Option ℕ
-  pub steps : ℕ
+  pub mode : Mode
   pub reads : List (Option Reading)
 
 -- the read file of a number

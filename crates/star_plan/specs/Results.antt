@@ -19,7 +19,7 @@ all_good (r ∷ rs) = option_and_then (λ m. option_map (λ ms. m ∷ ms) (all_g
 
 -- the result of a file's run over the results of its loads
 unfoldable pub ran : Plan → ℕ → List Local → Local
-ran plan n results = local_meaning n (trees plan) (load_files (loads_of plan n)) plan.prelude results plan.steps
+ran plan n results = local_meaning n (trees plan) (load_files (loads_of plan n)) plan.prelude results plan.mode
 
 -- the result of a file at a depth, if it has one: it has no static fault, all its loads are good at the depth below,
 -- and its body runs over them

@@ -34,13 +34,13 @@ pub record ArePlaced (files : List File) (plan : Plan) (placed : Files) : Type 0
 
 -- the environment of a file's run over the outcomes of its loads
 abbrev pub given : Plan → ℕ → List Local → Setting
-given plan n outcomes = setting n (trees plan) (load_files (loads_of plan n)) plan.prelude outcomes
+given plan n outcomes = setting n (trees plan) (load_files (loads_of plan n)) plan.prelude plan.mode.dialect outcomes
 
 -- the run of a file over the outcomes of its loads
 abbrev pub run_with : (Setting → Variables) → Plan → ℕ → List Statement → List Local → Outcome Ended
 run_with variables plan n ss outcomes =
     run_file (variables (given plan n outcomes)) (given plan n outcomes) most_levels ss
-    (start (given plan n outcomes) plan.steps)
+    (start (given plan n outcomes) plan.mode.steps)
 
 -- .. with variables by their names
 abbrev pub run_by_names : Plan → ℕ → List Statement → List Local → Outcome Ended
@@ -59,6 +59,7 @@ given_over placed plan n shelf =
       shelf = shelf;
       loads = load_files (loads_of plan n);
       prelude = plan.prelude;
+      dialect = plan.mode.dialect;
     }
 
 -- a file may run over a shelf: its statements are among those of the programs, the programs are right for the run, and
@@ -68,8 +69,8 @@ pub record MayRun (plan : Plan) (placed : Files) (n : ℕ) (ss : List Statement)
   pub stands : Stands (trees_of placed) n ss
   pub programs : ArePrograms placed (given_over placed plan n shelf).prelude
   pub functions : AllFit (trees_of placed) (given_over placed plan n shelf)
-      (start (given_over placed plan n shelf) plan.steps)
-  pub outcome : IsOutcome plan n (Ran (local (given_over placed plan n shelf) plan.steps ss))
+      (start (given_over placed plan n shelf) plan.mode.steps)
+  pub outcome : IsOutcome plan n (Ran (local (given_over placed plan n shelf) plan.mode.steps ss))
   pub own : (p : Published) (globals : List (List ℕ × Value)) (texts : List (List ℕ × List ℕ)) (lines : List (List ℕ))
-      → local (given_over placed plan n shelf) plan.steps ss ≡ Good (put_up n p shelf) globals texts lines
+      → local (given_over placed plan n shelf) plan.mode.steps ss ≡ Good (put_up n p shelf) globals texts lines
       → IsOwn plan n p

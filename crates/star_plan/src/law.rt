@@ -79,7 +79,7 @@ pub fn readings_make_plans()
     ensures { ReadingsMakePlans }
 {}
 
-/// Files have at most one plan for their roots, their prelude and the steps of each file.
+/// Files have at most one plan for their roots, their prelude and their mode.
 pub fn one_plan()
     ensures { OnePlan }
 {}
@@ -94,8 +94,8 @@ pub fn each_has_report()
     ensures { EachHasReport }
 {}
 
-/// Files have at most one text that is the report of a plan of them, for their roots, their prelude and the steps of
-/// each file.
+/// Files have at most one text that is the report of a plan of them, for their roots, their prelude and their
+/// mode.
 pub fn one_text()
     ensures { OneText }
 {}

@@ -1,7 +1,7 @@
 //! The meaning of many files together: which files are loaded, how each ends, and the report. Definitions and laws, no
 //! code (`docs/OUTCOMES.md`).
 //!
-//! A plan is the roots, the prelude, the steps, and the result of reading each file. In reading order:
+//! A plan is the roots, the prelude, the mode, and the result of reading each file. In reading order:
 //!
 //! - `specs/Plan` and `Reading`: the plan, and the result of reading a file;
 //! - `Reached`: the roots, and all files that they lead to by loads;

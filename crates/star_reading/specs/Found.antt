@@ -1,6 +1,7 @@
 -- The files that were found and read so far, and at the end all that roots reach.
 use Rattle.std.specs.Prelude.{◌≡◌, ◌+◌, ◌<◌, ◌⊎◌, ℕ, Bool, true, false, List, [], ◌∷◌, ◌++◌, None, Option, length, All, IsSome, Contains, count_by, nat_eq, not, slice_index_or}
 use Rattle.std.specs.List.{list_any}
+use Rattle.star_dialect.specs.declared.Dialect.TheVariants.{Core}
 use Rattle.star_label.specs.Files.{File}
 use Rattle.star_scope.specs.declared.program.Prelude.{Prelude}
 use Rattle.star_plan.specs.Plan.{Plan}
@@ -22,10 +23,10 @@ pub record IsClosed (row : Row) (roots : List ℕ) : Type 0 where
   pub starts : AreRead row roots
   pub loads : (n : ℕ) → All (λ l. IsSome (read_at row l.file)) (loads_at row n)
 
--- the read files as a plan for roots. The reached files do not depend on its steps, and depend on the prelude only
+-- the read files as a plan for roots. The reached files do not depend on its mode, and depend on the prelude only
 -- through the readings
 abbrev pub plan_by : List ℕ → Row → Plan
-plan_by roots row = record { roots = roots; prelude = None; steps = 0; reads = readings row }
+plan_by roots row = record { roots = roots; prelude = None; mode = record { steps = 0; dialect = Core }; reads = readings row }
 
 abbrev pub IsReachedBy : List ℕ → Row → ℕ → Type 0
 IsReachedBy roots row n = IsReached (plan_by roots row) n

@@ -17,12 +17,32 @@ use std::fs::{self, DirEntry};
 use std::io::{self, ErrorKind};
 use std::rt::Files;
 
+/// Which links are followed below the folder.
+#[derive(Clone, Copy, Debug, PartialEq, Eq)]
+pub enum Links {
+    /// Those that lead to a file of the folder.
+    Inside,
+    /// All.
+    Anywhere,
+    /// None.
+    Never,
+}
+
+/// Where a folder is: the path by which it was named, its real path, which has no links, and which links are followed
+/// below it.
+#[derive(Clone, Copy, Debug)]
+pub struct Top<'a> {
+    pub path: &'a str,
+    pub real: &'a str,
+    pub links: Links,
+}
+
 /// The folder at a path of the disk. It counts its failures. It promises nothing about its content, since no contract
-/// can say what a disk gives. Links are followed.
+/// can say what a disk gives. Where a link leads that is not followed, there is no file.
 #[derive(Drop)]
 pub struct DiskRepo<'a, R> {
     rt: &'a R,
-    top: &'a str,
+    top: Top<'a>,
     failed: u64,
 }
 
@@ -39,9 +59,9 @@ impl<'a, R> Clone for DiskRepo<'a, R> {
 }
 
 impl<'a, R> DiskRepo<'a, R> {
-    /// The folder at this path. Nothing has failed yet.
-    pub fn new(rt: &'a R, top: &'a str) -> Self
-        ensures top { result.top.now ≡ top.now }
+    /// The folder there. Nothing has failed yet.
+    pub fn new(rt: &'a R, top: Top<'a>) -> Self
+        ensures top { result.top ≡ top.entry }
         ensures failed { result.failed ≡ 0 }
     {
         DiskRepo { rt, top, failed: 0 }
@@ -82,17 +102,59 @@ fn leads_nowhere(kind: ErrorKind) -> bool {
     )
 }
 
-/// The size in bytes of the file that a path leads to, through links too. `None` if it does not lead to a file.
-fn size_at<R: Files>(rt: &R, path: &str) -> io::Result<Option<u64>> {
-    match fs::metadata(rt, path) {
-        Ok(metadata) if metadata.is_file() => Ok(Some(metadata.len())),
-        Ok(_) => Ok(None),
+/// The answer of a look-up, or `None` if its error says that the path leads to no file.
+fn unless_nowhere<T>(found: io::Result<T>) -> io::Result<Option<T>> {
+    match found {
+        Ok(found) => Ok(Some(found)),
         Err(error) => {
             if leads_nowhere(error.kind()) {
                 Ok(None)
             } else {
                 Err(error)
             }
+        }
+    }
+}
+
+/// The size in bytes of the file that a path leads to, through links too. `None` if it does not lead to a file.
+fn size_at<R: Files>(rt: &R, path: &str) -> io::Result<Option<u64>> {
+    match unless_nowhere(fs::metadata(rt, path))? {
+        Some(metadata) if metadata.is_file() => Ok(Some(metadata.len())),
+        _ => Ok(None),
+    }
+}
+
+/// The rest of a path below a folder, without the slashes before it; `None` if it does not lead there.
+fn rest_below<'p>(folder: &str, path: &'p str) -> Option<&'p str> {
+    let rest = path.strip_prefix(folder)?;
+    if rest.starts_with('/') || folder.ends_with('/') {
+        return Some(rest.trim_start_matches('/'));
+    }
+    None
+}
+
+impl<'a> Top<'a> {
+    /// Whether all links on the way to a path below the folder are followed, if it leads to this real path.
+    fn leads(self, path: &str, real: &str) -> bool {
+        let rest = rest_below(self.real, real);
+        match self.links {
+            Links::Anywhere => true,
+            Links::Inside => rest.is_some(),
+            Links::Never => rest.is_some() && rest == rest_below(self.path, path),
+        }
+    }
+
+    /// Whether a path below the folder leads somewhere by links that are not followed.
+    fn is_left<R: Files + AllocGlobal>(self, rt: &R, path: &str) -> io::Result<bool> {
+        if self.links == Links::Anywhere {
+            return Ok(false);
+        }
+        match unless_nowhere(fs::canonicalize(rt, path))? {
+            Some(real) => match real.to_str() {
+                Some(real) => Ok(!self.leads(path, real)),
+                None => Ok(true),
+            },
+            None => Ok(false),
         }
     }
 }
@@ -108,12 +170,21 @@ fn text_in(alloc: Global, mut bytes: Vec<u8>) -> Result<Vec<u8>, AllocError>
     Ok(bytes)
 }
 
-/// Looks a path up.
-fn found_at<R: Files + AllocGlobal>(rt: &R, path: String) -> io::Result<Found>
+/// The size in bytes of the file that a path below a folder leads to, by links that are followed. `None` if it does not
+/// lead to a file.
+fn size_below<R: Files + AllocGlobal>(rt: &R, top: Top<'_>, path: &str) -> io::Result<Option<u64>> {
+    if top.is_left(rt, path)? {
+        return Ok(None);
+    }
+    size_at(rt, path)
+}
+
+/// Looks a path below a folder up.
+fn found_at<R: Files + AllocGlobal>(rt: &R, top: Top<'_>, path: String) -> io::Result<Found>
     ensures path { IfOk result (λ found. string_bytes found.path ≡ string_bytes path) }
     ensures few { IfOk result (λ found. IfSome found.text (λ text. vec_len text ≤ 1048577)) }
 {
-    let Some(size) = size_at(rt, path.as_str())? else {
+    let Some(size) = size_below(rt, top, path.as_str())? else {
         return Ok(Found { path, text: None });
     };
     let front = front_of_size(rt, path, FRONT + MARK.len(), size)?;
@@ -125,12 +196,12 @@ fn found_at<R: Files + AllocGlobal>(rt: &R, path: String) -> io::Result<Found>
 }
 
 /// Looks the path of a label up in the folder at `top`.
-fn found_of<R: Files + AllocGlobal>(rt: &R, top: &str, label: &Label) -> io::Result<Found>
-    ensures path { IfOk result (λ found. string_bytes found.path ≡ file_at top.now (text_of label.now)) }
+fn found_of<R: Files + AllocGlobal>(rt: &R, top: Top<'_>, label: &Label) -> io::Result<Found>
+    ensures path { IfOk result (λ found. string_bytes found.path ≡ file_at top.entry.path.now (text_of label.now)) }
     ensures few { IfOk result (λ found. IfSome found.text (λ text. vec_len text ≤ 1048577)) }
 {
-    let path = path_of(rt.alloc(), top, label)?;
-    found_at(rt, path)
+    let path = path_of(rt.alloc(), top.path, label)?;
+    found_at(rt, top, path)
 }
 
 /// The entry of a folder. `None` if its name is not UTF-8.
@@ -151,17 +222,21 @@ fn entry_of<R: Files + AllocGlobal + Clone + Drop>(
     Ok(Some((String::from_str(alloc, entry.file_name())?, kind)))
 }
 
-/// The entries of the folder at a path in the folder at `top`, but those whose names are not UTF-8.
+/// The entries of the folder at a path in the folder at `top`, but those whose names are not UTF-8. There are none where
+/// links lead that are not followed.
 fn entries_of<R: Files + AllocGlobal + Clone + Drop>(
     rt: &R,
-    top: &str,
+    top: Top<'_>,
     path: &str,
 ) -> io::Result<BTreeMap<String, Kind>> {
     let alloc = rt.alloc();
-    let mut below = String::from_str(alloc, top)?;
+    let mut below = String::from_str(alloc, top.path)?;
     below.push('/')?;
     below.push_str(path)?;
     let mut entries = BTreeMap::new(alloc);
+    if path != "" && top.is_left(rt, below.as_str())? {
+        return Ok(entries);
+    }
     for entry in fs::read_dir(rt, below.as_str())? {
         if let Some((name, kind)) = entry_of(alloc, entry)? {
             entries.insert(name, kind)?;

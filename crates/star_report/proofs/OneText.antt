@@ -47,7 +47,7 @@ one_paid plan n a b x y =
     let outcomes : x.outcomes ≡ y.outcomes = one_good plan (loaded plan n) x.outcomes y.outcomes x.good y.good in
     let runs : Done x.ended x.state ≡ Done y.ended y.state = sym x.run ∙ (ap (λ ss. run_by_names plan n ss x.outcomes) same ∙ (ap (run_by_names plan n y.statements) outcomes ∙ y.run)) in
     let state : x.state ≡ y.state = cc in
-    x.steps ∙ (ap (λ (s : State). plan.steps - s.steps) state ∙ sym y.steps)
+    x.steps ∙ (ap (λ (s : State). plan.mode.steps - s.steps) state ∙ sym y.steps)
 
 one_steps_as : (plan : Plan) (n : ℕ) (o : Outcome) (a b : Members) → HasStepsAs plan n o a → HasStepsAs plan n o b → a ≡ b
 one_steps_as plan n (Ran (Good shelf globals texts lines)) a b (i, x, e) (k, y, g) = e ∙ (ap (λ m. member (codes "steps") (number (unsigned m)) no_members) (one_paid plan n i k x y) ∙ sym g)
@@ -58,7 +58,7 @@ one_steps_as plan n (Unloaded i) a b x y = x ∙ sym y
 one_steps : (plan : Plan) (n : ℕ) (a b : Members) → HasSteps plan n a → HasSteps plan n b → a ≡ b
 one_steps plan n a b (o, x, e) (p, y, g) = one_steps_as plan n p a b (subst (λ q. HasStepsAs plan n q a) (one-outcome plan n o p x y) e) g
 
-one_more : (wanted : Wanted) (files : List File) (plan : Plan) (n : ℕ) (a b : Members) → AreMore wanted files plan n a → AreMore wanted files plan n b → a ≡ b
+pub one_more : (wanted : Wanted) (files : List File) (plan : Plan) (n : ℕ) (a b : Members) → AreMore wanted files plan n a → AreMore wanted files plan n b → a ≡ b
 one_more wanted files plan n a b (l, s, v, x, y, z, e) (m, t, w, p, q, r, g) =
     let loads : l ≡ m = one_wanted wanted.loads (HasLoads files plan n) (one_loads files plan n) l m x p in
     let steps : s ≡ t = one_wanted wanted.steps (HasSteps plan n) (one_steps plan n) s t y q in

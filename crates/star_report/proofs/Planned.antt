@@ -14,7 +14,7 @@ use Rattle.star_report.specs.Shelf.{LeadToFiles}
 -- the readings of a plan's files are those that the plan has
 pub read_plan : (files : List File) (row : Row) (plan : Plan) → IsOrdered files → IsPlanOf files plan → IsReadOf files plan.roots plan.prelude row → readings row ≡ plan.reads
 read_plan files row plan ordered planned (block, prelude_is, rows) =
-    let q : Plan = record { roots = plan.roots; prelude = plan.prelude; steps = plan.steps; reads = readings row } in
+    let q : Plan = record { roots = plan.roots; prelude = plan.prelude; mode = plan.mode; reads = readings row } in
     let also : IsPlanOf files q = planned_so files block row q refl prelude_is rows in
     ap (λ (p : Plan). p.reads) (one-plan files ordered q plan also planned refl refl refl)
 

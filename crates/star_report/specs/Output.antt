@@ -1,6 +1,7 @@
 -- The text that is written of a plan: the report, the globals of the roots, the graph of loads, or the check.
 use Rattle.std.specs.Prelude.{◌≡◌, ℕ, List, [], Bool, true, false, Option, string_bytes}
 use Rattle.serde_json.specs.Data.{Data}
+use Rattle.star_dialect.specs.declared.Mode.{Mode}
 use Rattle.star_label.specs.Files.{File}
 use Rattle.star_plan.specs.Plan.{Plan}
 use Rattle.star_plan.specs.Reading.{IsPlanOf}
@@ -39,7 +40,7 @@ IsSaid (Global name) files plan false line =
 IsSaid Graph files plan ok line = line ≡ []
 IsSaid (Check only_roots) files plan ok line = line ≡ []
 
--- this holds in the plan that files have for roots, a prelude and a number of steps
-abbrev pub InPlanOf : List File → List ℕ → Option ℕ → ℕ → (Plan → Type 0) → Type 0
-InPlanOf files roots prelude steps P =
-    (plan : Plan) × IsPlanOf files plan × (plan.roots ≡ roots) × (plan.prelude ≡ prelude) × (plan.steps ≡ steps) × P plan
+-- this holds in the plan that files have for roots, a prelude and a mode
+abbrev pub InPlanOf : List File → List ℕ → Option ℕ → Mode → (Plan → Type 0) → Type 0
+InPlanOf files roots prelude mode P =
+    (plan : Plan) × IsPlanOf files plan × (plan.roots ≡ roots) × (plan.prelude ≡ prelude) × (plan.mode ≡ mode) × P plan

@@ -1,5 +1,6 @@
 -- The text that is written if nothing is run.
 use Rattle.std.proofs.Common.{arith, ◌≡◌, ◌<◌, ◌++◌, ℕ, Bool, false, List, [], ◌∷◌, Option, refl, sym, subst}
+use Rattle.star_dialect.specs.declared.Mode.{Mode}
 use Rattle.star_label.specs.Files.{File}
 use Rattle.star_bundle.specs.Bundle.{Asked}
 use Rattle.star_check.specs.Text.{IsCheckAnswer, IsCheckText}
@@ -17,20 +18,20 @@ use Rattle.star_serve.proofs.Traced.{Adds-nothing}
 
 -- a fact of each plan that has these readings is a fact of a plan of the files
 pub checked_in : (files : List File) (roots : List ℕ) (prelude : Option ℕ) (row : Row) (only : Bool) (text : List ℕ) (ok : Bool) → IsReadOf files roots prelude row
-    → ((plan : Plan) → IsPlanOf files plan → readings row ≡ plan.reads → plan.roots ≡ roots → IsCheckText only files plan text × IsCheckAnswer plan ok) → (steps : ℕ) → InPlanOf files roots prelude steps (λ plan. IsOutput (Check only) files plan text ok)
-checked_in files roots prelude row only text ok (block, prelude_is, rows) each steps =
-    let plan : Plan = record { roots = roots; prelude = prelude; steps = steps; reads = readings row } in
+    → ((plan : Plan) → IsPlanOf files plan → readings row ≡ plan.reads → plan.roots ≡ roots → IsCheckText only files plan text × IsCheckAnswer plan ok) → (mode : Mode) → InPlanOf files roots prelude mode (λ plan. IsOutput (Check only) files plan text ok)
+checked_in files roots prelude row only text ok (block, prelude_is, rows) each mode =
+    let plan : Plan = record { roots = roots; prelude = prelude; mode = mode; reads = readings row } in
     let planned : IsPlanOf files plan = planned_so files block row plan refl prelude_is rows in
     (plan, planned, refl, refl, refl, each plan planned refl refl)
 
 -- no line is written beside the check, and no load was refused
-pub checked_said : (asked : Asked) (steps : ℕ) (only ok trace : Bool) (text : List ℕ) (old new : Option (List ℕ)) → new ≡ old → InPlanOf asked.files asked.roots asked.prelude steps (λ plan. IsOutput (Check only) asked.files plan text ok)
-    → Traces (Check only) asked steps ok trace old new
-checked_said asked steps only ok trace text old new same (plan, planned, of_roots, of_prelude, of_steps, out) = (
+pub checked_said : (asked : Asked) (mode : Mode) (only ok trace : Bool) (text : List ℕ) (old new : Option (List ℕ)) → new ≡ old → InPlanOf asked.files asked.roots asked.prelude mode (λ plan. IsOutput (Check only) asked.files plan text ok)
+    → Traces (Check only) asked mode ok trace old new
+checked_said asked mode only ok trace text old new same (plan, planned, of_roots, of_prelude, of_mode, out) = (
   [],
-  (plan, planned, of_roots, of_prelude, of_steps, refl),
+  (plan, planned, of_roots, of_prelude, of_mode, refl),
   [],
-  (plan, planned, of_roots, of_prelude, of_steps, λ k d lt. absurd (let no : ⊥ = omega (arith, lt) in no)),
+  (plan, planned, of_roots, of_prelude, of_mode, λ k d lt. absurd (let no : ⊥ = omega (arith, lt) in no)),
   λ off. refl,
   subst (λ t. Adds old t []) (sym same) (Adds-nothing old),
 )

@@ -2,6 +2,7 @@
 use Rattle.std.proofs.Common.{◌≡◌, ◌<◌, ℕ, Bool, true, false, List, [], Option, length, map, sym, subst, Result, Ok, Err}
 use Rattle.std.specs.Prelude.{IfOk}
 use Rattle.std.specs.List.{All}
+use Rattle.star_dialect.specs.declared.Mode.{Mode}
 use Rattle.star_label.specs.Files.{File}
 use Rattle.star_outcome.specs.Kept.{AllGood, AreModules, AreModulesOf, KeptView, RunView}
 use Rattle.star_plan.specs.Plan.{Plan}
@@ -45,16 +46,16 @@ pub answer_of : (plan : Plan) (ks : List KeptView) (ok : Bool) → AreModules pl
 answer_of plan ks ok are good bad = (ks, are, good, bad)
 
 -- a fact of each plan that has this run is a fact of the plan of the files
-pub in_plan_of : (files : List File) (roots : List ℕ) (prelude : Option ℕ) (steps : ℕ) (row : Row) (run : RunView) (P : Plan → Type 0) → run.begun ≡ length run.kept → AreModulesOf files roots prelude steps run.kept → IsReadOf files roots prelude row
-    → ((plan : Plan) → IsRunOf files roots row run plan → P plan) → InPlanOf files roots prelude steps P
-in_plan_of files roots prelude steps row run P begun (plan, planned, of_roots, of_prelude, of_steps, are) read each =
-    (plan, planned, of_roots, of_prelude, of_steps, each plan (record { planned = planned; roots_are = of_roots; read = subst (λ p. IsReadOf files roots p row) (sym of_prelude) read; modules = are; begun = begun }))
+pub in_plan_of : (files : List File) (roots : List ℕ) (prelude : Option ℕ) (mode : Mode) (row : Row) (run : RunView) (P : Plan → Type 0) → run.begun ≡ length run.kept → AreModulesOf files roots prelude mode run.kept → IsReadOf files roots prelude row
+    → ((plan : Plan) → IsRunOf files roots row run plan → P plan) → InPlanOf files roots prelude mode P
+in_plan_of files roots prelude mode row run P begun (plan, planned, of_roots, of_prelude, of_mode, are) read each =
+    (plan, planned, of_roots, of_prelude, of_mode, each plan (record { planned = planned; roots_are = of_roots; read = subst (λ p. IsReadOf files roots p row) (sym of_prelude) read; modules = are; begun = begun }))
 
 -- .. where the run was of roots that are the same
-pub in_plan_of_same : (files : List File) (roots given : List ℕ) (prelude : Option ℕ) (steps : ℕ) (row : Row) (run : RunView) (P : Plan → Type 0) → given ≡ roots → run.begun ≡ length run.kept → AreModulesOf files given prelude steps run.kept → IsReadOf files given prelude row
-    → ((plan : Plan) → IsRunOf files roots row run plan → P plan) → InPlanOf files roots prelude steps P
-in_plan_of_same files roots given prelude steps row run P same begun are read =
-    in_plan_of files roots prelude steps row run P begun (subst (λ rs. AreModulesOf files rs prelude steps run.kept) same are) (subst (λ rs. IsReadOf files rs prelude row) same read)
+pub in_plan_of_same : (files : List File) (roots given : List ℕ) (prelude : Option ℕ) (mode : Mode) (row : Row) (run : RunView) (P : Plan → Type 0) → given ≡ roots → run.begun ≡ length run.kept → AreModulesOf files given prelude mode run.kept → IsReadOf files given prelude row
+    → ((plan : Plan) → IsRunOf files roots row run plan → P plan) → InPlanOf files roots prelude mode P
+in_plan_of_same files roots given prelude mode row run P same begun are read =
+    in_plan_of files roots prelude mode row run P begun (subst (λ rs. AreModulesOf files rs prelude mode run.kept) same are) (subst (λ rs. IsReadOf files rs prelude row) same read)
 
 none_said : (output : Output) (files : List File) (plan : Plan) (ok : Bool) (line : List ℕ) → IsSaid output files plan ok line → is_said output ok ≡ false → line ≡ []
 none_said (Report wanted) files plan ok line is none = is
@@ -64,8 +65,8 @@ none_said Graph files plan ok line is none = is
 none_said (Check only_roots) files plan ok line is none = is
 
 -- an output that has no line beside it has an empty line
-pub not_said : (output : Output) (files : List File) (roots : List ℕ) (prelude : Option ℕ) (steps : ℕ) (ok : Bool) (line : List ℕ) → InPlanOf files roots prelude steps (λ plan. IsSaid output files plan ok line) → is_said output ok ≡ false → line ≡ []
-not_said output files roots prelude steps ok line (plan, planned, of_roots, of_prelude, of_steps, is) none = none_said output files plan ok line is none
+pub not_said : (output : Output) (files : List File) (roots : List ℕ) (prelude : Option ℕ) (mode : Mode) (ok : Bool) (line : List ℕ) → InPlanOf files roots prelude mode (λ plan. IsSaid output files plan ok line) → is_said output ok ≡ false → line ≡ []
+not_said output files roots prelude mode ok line (plan, planned, of_roots, of_prelude, of_mode, is) none = none_said output files plan ok line is none
 
 -- a value with a fact has a further fact
 pub if_ok-map : {A E : Type 0} {P Q : A → Type 0} (r : Result A E) → ((x : A) → P x → Q x) → IfOk r P → IfOk r Q

@@ -1,5 +1,6 @@
 -- The answer of the program for a bundle, or for the files of a folder by its walk.
 use Rattle.std.specs.Prelude.{◌≡◌, ⊤, ℕ, ◌<◌, ◌≤◌, List, length, map, Bool, Option, None, option_map, Result, Ok, Err, string_bytes}
+use Rattle.star_dialect.specs.declared.Mode.{Mode}
 use Rattle.star_label.specs.Files.{File}
 use Rattle.star_folder.specs.Folder.{Contents}
 use Rattle.star_folder.specs.Walk.{AreFilesOf}
@@ -56,22 +57,22 @@ abbrev pub AsksForDir : Contents → Options → Result Asked ServeError → Typ
 AsksForDir held options given = (files : List File) × AreFilesOf held files × AsksAmong files options given
 
 -- the text and the answer are the wanted output for the input that is asked for
-abbrev pub IsOutputFor : Output → Asked → ℕ → List ℕ → Bool → Type 0
-IsOutputFor output asked steps text all_ok =
-    InPlanOf asked.files asked.roots asked.prelude steps (λ plan. IsOutput output asked.files plan text all_ok)
+abbrev pub IsOutputFor : Output → Asked → Mode → List ℕ → Bool → Type 0
+IsOutputFor output asked mode text all_ok =
+    InPlanOf asked.files asked.roots asked.prelude mode (λ plan. IsOutput output asked.files plan text all_ok)
 
 -- Between old and new the wanted output for the input that is asked for was written, and nothing else, and this is the
 -- answer (`IsOutput`).
-abbrev pub Reports : Output → Asked → ℕ → Option (List ℕ) → Option (List ℕ) → Bool → Type 0
-Reports output asked steps old new all_ok =
-    (text : List ℕ) × Adds old new text × IsOutputFor output asked steps text all_ok
+abbrev pub Reports : Output → Asked → Mode → Option (List ℕ) → Option (List ℕ) → Bool → Type 0
+Reports output asked mode old new all_ok =
+    (text : List ℕ) × Adds old new text × IsOutputFor output asked mode text all_ok
 
 -- If no message to a person is wanted and no write failed, nothing but the trace was written between the two states of
 -- a writer (`Traces`). `taken` says what a writer has taken, `failed` how many of its writes have failed.
 abbrev pub IsTraced : {E : Type 0} → (E → Option (List ℕ)) → (E → ℕ) → Options → Asked → Bool → E → E → Type 0
 IsTraced taken failed options asked all_ok old new =
     options.explain ≡ None → failed new ≡ failed old
-    → Traces options.output asked options.steps all_ok options.trace (taken old) (taken new)
+    → Traces options.output asked options.mode all_ok options.trace (taken old) (taken new)
 
 -- By the options some input is asked for. Its report was written, and nothing else, and this is the answer. Nothing but
 -- the trace was written to the other writer, if no message to a person is wanted and no write failed.
@@ -79,7 +80,7 @@ abbrev pub IsServed : {W E : Type 0} → (W → Option (List ℕ)) → (E → Op
     → (Options → Result Asked ServeError → Type 0) → W → W → E → E → Bool → Type 0
 IsServed taken traced failed options asks old new errors errors' all_ok =
     (asked : Asked) × asks options (Ok asked)
-    × Reports options.output asked options.steps (taken old) (taken new) all_ok
+    × Reports options.output asked options.mode (taken old) (taken new) all_ok
     × IsTraced traced failed options asked all_ok errors errors'
 
 -- the meaning of a refusal of a run or of its report: nothing was written, unless the write failed

@@ -1,5 +1,6 @@
 -- The lines that are written of the refused loads.
 use Rattle.std.specs.Prelude.{◌≡◌, ℕ, Bool, false, not, List, [], ◌∷◌, ◌++◌, take, Option, codes}
+use Rattle.star_dialect.specs.declared.Mode.{Mode}
 use Rattle.star_label.specs.Files.{File, label_at}
 use Rattle.star_bundle.specs.Bundle.{Asked}
 use Rattle.star_outcome.specs.Refusals.{AreRefusalsOf}
@@ -20,9 +21,9 @@ trace_text files [] = []
 trace_text files (r ∷ rs) = trace_line files r ++ trace_text files rs
 
 -- this line is written beside the wanted output for the input that is asked for
-abbrev pub IsSaidFor : Output → Asked → ℕ → Bool → List ℕ → Type 0
-IsSaidFor output asked steps all_ok line =
-    InPlanOf asked.files asked.roots asked.prelude steps (λ plan. IsSaid output asked.files plan all_ok line)
+abbrev pub IsSaidFor : Output → Asked → Mode → Bool → List ℕ → Type 0
+IsSaidFor output asked mode all_ok line =
+    InPlanOf asked.files asked.roots asked.prelude mode (λ plan. IsSaid output asked.files plan all_ok line)
 
 -- between old and new the lines of the first of these loads were written
 abbrev pub TracesFirst : List File → List CyclicLoad → Option (List ℕ) → Option (List ℕ) → Type 0
@@ -35,10 +36,10 @@ SaysFirst files said rs trace old new =
 
 -- Between old and new the line beside the wanted output was written (`IsSaid`), and then, with the trace, the lines of
 -- some loads, and nothing else. Each of these loads lies on a cycle of loads.
-abbrev pub Traces : Output → Asked → ℕ → Bool → Bool → Option (List ℕ) → Option (List ℕ) → Type 0
-Traces output asked steps all_ok trace old new =
-    (line : List ℕ) × IsSaidFor output asked steps all_ok line
-    × (rs : List CyclicLoad) × AreRefusalsOf asked.files asked.roots asked.prelude steps rs
+abbrev pub Traces : Output → Asked → Mode → Bool → Bool → Option (List ℕ) → Option (List ℕ) → Type 0
+Traces output asked mode all_ok trace old new =
+    (line : List ℕ) × IsSaidFor output asked mode all_ok line
+    × (rs : List CyclicLoad) × AreRefusalsOf asked.files asked.roots asked.prelude mode rs
     × (trace ≡ false → rs ≡ []) × Adds old new (line ++ trace_text asked.files rs)
 
 -- whether a line is written beside the wanted output

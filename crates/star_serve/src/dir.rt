@@ -30,7 +30,7 @@ pub fn serve_dir<H: Threads + Wait + Sync, F: Folder, W: Sink, E: Sink>(
     options: &Options,
 ) -> Result<bool, ServeError>
     requires loaders { (1 ≤ options.now.loaders) × (options.now.loaders ≤ 64) }
-    requires steps { (1 ≤ options.now.steps) × (options.now.steps ≤ 100000000) }
+    requires steps { (1 ≤ options.now.mode.steps) × (options.now.mode.steps ≤ 100000000) }
 
     // The walk came to its end, and its files have each root and the prelude. Their report was written, and nothing
     // else. Nothing was written to `errors` but lines of loads that lie on cycles, unless a write to it failed.

@@ -36,7 +36,7 @@ fn reported_of<'t, H: Threads + Wait + Sync, W: Sink, E: Sink>(
 ) -> Result<bool, ServeError>
     requires parsed { AreParsesOf reached.files reached.parses.items }
     requires loaders { (1 ≤ options.now.loaders) × (options.now.loaders ≤ 64) }
-    requires steps { (1 ≤ options.now.steps) × (options.now.steps ≤ 100000000) }
+    requires steps { (1 ≤ options.now.mode.steps) × (options.now.mode.steps ≤ 100000000) }
     ensures ok { IfOk result (IsServed W.taken E.taken E.failed options.now (AsksAmong reached.entry.files)
         writer.old writer.new errors.old errors.new) }
     ensures untraced { IfOk result (λ all_ok. options.now.explain ≡ None → options.now.trace ≡ false
@@ -84,7 +84,7 @@ pub fn serve_repo<H: Threads + Wait + Sync, F: Repo, W: Sink, E: Sink>(
     options: &Options,
 ) -> Result<bool, RepoError>
     requires loaders { (1 ≤ options.now.loaders) × (options.now.loaders ≤ 64) }
-    requires steps { (1 ≤ options.now.steps) × (options.now.steps ≤ 100000000) }
+    requires steps { (1 ≤ options.now.mode.steps) × (options.now.mode.steps ≤ 100000000) }
 
     // The files are those that the roots and the prelude reach in some folder that fits all that this one tells. They
     // have each root and the prelude. Their report was written, and nothing else. Nothing was written to `errors` but

@@ -2,6 +2,7 @@
 
 ghost use Rattle.std.specs.Prelude.{false, ◌≡◌, ◌+◌, ◌<◌, ◌≤◌, ◌⊎◌, ℕ, All, None, length, string_bytes, IfOk, IfErr, IfSome};
 ghost use Rattle.star_bundle.specs.View.{asked_view};
+ghost use Rattle.star_dialect.specs.declared.Mode.{Mode as ModeView};
 ghost use Rattle.star_bundle.specs.Refusal.{reads_failed, writes_failed};
 ghost use Rattle.star_outcome.specs.GoodEnds.{AreGoodEndsOf, AreReachedEnds};
 ghost use Rattle.star_outcome.specs.Kept.{AreModulesOf};
@@ -24,6 +25,7 @@ use star_bundle::bundle::{AskedFor, asked_for};
 use star_bundle::error::ServeError;
 use star_check::check::{Checked, check};
 use star_check::verdict::Judged;
+use star_dialect::Mode;
 pub use star_explain::explain::Form;
 use star_explain::explain::{explain, explain_check};
 use star_host::{
@@ -42,8 +44,8 @@ use std::thread::Threads;
 pub struct Options {
     /// How many loaders run, from 1 to 64.
     pub loaders: usize,
-    /// How many steps a file may take, from 1 to 100,000,000.
-    pub steps: u32,
+    /// The mode in which files run: a file may take from 1 to 100,000,000 steps.
+    pub mode: Mode,
     /// The seed for the hashes of keys (`RunOptions`). No answer depends on it.
     pub seed: u64,
     /// The labels that are asked for, each word as it was given.
@@ -99,8 +101,8 @@ fn checked<'t, H: Threads + Wait + Sync>(
     requires reads { AreKnown job.now.asked.now.files job.now.asked.now.prelude reads.old.all.items }
     requires roots { All (λ n. n < length job.now.asked.now.files) job.now.asked.now.roots.items }
     requires prelude { IfSome job.now.asked.now.prelude (λ n. n < length job.now.asked.now.files) }
-    ensures text { IfOk result (λ c. (steps : ℕ)
-        → IsOutputFor (output.Check only_roots) (asked_in job.now) steps c.text.items c.all_ok) }
+    ensures text { IfOk result (λ c. (mode : ModeView)
+        → IsOutputFor (output.Check only_roots) (asked_in job.now) mode c.text.items c.all_ok) }
     ensures read { let a = job.now.asked.now in IfOk result (λ _.
         IsReadOf a.files a.roots.items a.prelude reads.new.all.items) }
     ensures others { let a = job.now.asked.now in IfOk result (λ _. AreKnown a.files a.prelude reads.new.others.items) }
@@ -140,21 +142,21 @@ fn answered<'t, H: Threads + Wait + Sync>(
     requires parses { AreParsesOf job.now.asked.now.files job.now.parses.now }
     requires reads { AreKnown job.now.asked.now.files job.now.asked.now.prelude reads.old.all.items }
     requires ends { let a = job.now.asked.now in
-        AreGoodEndsOf a.files a.roots.items a.prelude options.now.steps ends.now }
+        AreGoodEndsOf a.files a.roots.items a.prelude options.now.mode ends.now }
     requires roots { All (λ n. n < length job.now.asked.now.files) job.now.asked.now.roots.items }
     requires prelude { IfSome job.now.asked.now.prelude (λ n. n < length job.now.asked.now.files) }
     requires loaders { (1 ≤ options.now.loaders) × (options.now.loaders ≤ 64) }
-    requires steps { (1 ≤ options.now.steps) × (options.now.steps ≤ 100000000) }
+    requires steps { (1 ≤ options.now.mode.steps) × (options.now.mode.steps ≤ 100000000) }
     ensures kinds { IfErr result (λ e. (e ≡ ServeError.Memory) ⊎ (e ≡ ServeError.Unpublished)) }
     ensures text { let o = options.now in IfOk result (λ a.
-        IsOutputFor o.output (asked_in job.now) o.steps a.written.text.items a.written.all_ok) }
+        IsOutputFor o.output (asked_in job.now) o.mode a.written.text.items a.written.all_ok) }
     ensures said { let o = options.now in IfOk result (λ a.
-        IsSaidFor o.output (asked_in job.now) o.steps a.written.all_ok (string_bytes a.written.said)) }
+        IsSaidFor o.output (asked_in job.now) o.mode a.written.all_ok (string_bytes a.written.said)) }
     ensures refused { let a = job.now.asked.now in IfOk result (λ answer.
-        AreRefusalsOf a.files a.roots.items a.prelude options.now.steps answer.run.refused) }
+        AreRefusalsOf a.files a.roots.items a.prelude options.now.mode answer.run.refused) }
     ensures cells { IfOk result (λ a. length a.run.cells ≡ length job.now.asked.now.files) }
     ensures modules { let a = job.now.asked.now in IfOk result (λ answer.
-        AreModulesOf a.files a.roots.items a.prelude options.now.steps answer.run.kept) }
+        AreModulesOf a.files a.roots.items a.prelude options.now.mode answer.run.kept) }
     ensures read { let a = job.now.asked.now in IfOk result (λ _.
         IsReadOf a.files a.roots.items a.prelude reads.new.all.items) }
     ensures others { let a = job.now.asked.now in IfOk result (λ _. AreKnown a.files a.prelude reads.new.others.items) }
@@ -177,7 +179,7 @@ fn answered<'t, H: Threads + Wait + Sync>(
         roots,
         prelude: asked.prelude,
         loaders: options.loaders,
-        steps: options.steps,
+        mode: options.mode,
         seed: options.seed,
         ballast: job.ballast,
     };
@@ -207,7 +209,7 @@ fn check_over<'t, H: Threads + Wait + Sync>(
     requires prelude { IfSome job.now.asked.now.prelude (λ n. n < length job.now.asked.now.files) }
     ensures kinds { IfErr result (λ e. (e ≡ ServeError.Memory) ⊎ (e ≡ ServeError.Unpublished)) }
     ensures text { IfOk result (λ w.
-        IsOutputFor (output.Check only_roots) (asked_in job.now) options.now.steps w.text.items w.all_ok) }
+        IsOutputFor (output.Check only_roots) (asked_in job.now) options.now.mode w.text.items w.all_ok) }
     ensures read { let a = job.now.asked.now in IfOk result (λ _.
         IsReadOf a.files a.roots.items a.prelude reads.new.all.items) }
     ensures others { let a = job.now.asked.now in IfOk result (λ _. AreKnown a.files a.prelude reads.new.others.items) }
@@ -267,16 +269,16 @@ pub fn written_over<'t, H: Threads + Wait + Sync>(
     requires parses { AreParsesOf job.now.asked.now.files job.now.parses.now }
     requires reads { AreKnown job.now.asked.now.files job.now.asked.now.prelude reads.old.all.items }
     requires ends { let a = job.now.asked.now in
-        AreGoodEndsOf a.files a.roots.items a.prelude options.now.steps ends.now }
+        AreGoodEndsOf a.files a.roots.items a.prelude options.now.mode ends.now }
     requires roots { All (λ n. n < length job.now.asked.now.files) job.now.asked.now.roots.items }
     requires prelude { IfSome job.now.asked.now.prelude (λ n. n < length job.now.asked.now.files) }
     requires loaders { (1 ≤ options.now.loaders) × (options.now.loaders ≤ 64) }
-    requires steps { (1 ≤ options.now.steps) × (options.now.steps ≤ 100000000) }
+    requires steps { (1 ≤ options.now.mode.steps) × (options.now.mode.steps ≤ 100000000) }
     ensures kinds { IfErr result (λ e. (e ≡ ServeError.Memory) ⊎ (e ≡ ServeError.Unpublished)) }
     ensures text { let o = options.now in IfOk result (λ f.
-        IsOutputFor o.output (asked_in job.now) o.steps f.written.text.items f.written.all_ok) }
+        IsOutputFor o.output (asked_in job.now) o.mode f.written.text.items f.written.all_ok) }
     ensures ends { let a = job.now.asked.now in IfOk result (λ f.
-        InPlanOf a.files a.roots.items a.prelude options.now.steps (λ p. AreReachedEnds p f.ends.items)) }
+        InPlanOf a.files a.roots.items a.prelude options.now.mode (λ p. AreReachedEnds p f.ends.items)) }
     ensures read { let a = job.now.asked.now in IfOk result (λ _.
         IsReadOf a.files a.roots.items a.prelude reads.new.all.items) }
     ensures others { let a = job.now.asked.now in IfOk result (λ _. AreKnown a.files a.prelude reads.new.others.items) }
@@ -362,7 +364,7 @@ fn checked_over<'t, H: Threads + Wait + Sync, W: Sink, E: Sink>(
     requires parses { AreParsesOf job.now.asked.now.files job.now.parses.now }
     requires roots { All (λ n. n < length job.now.asked.now.files) job.now.asked.now.roots.items }
     requires prelude { IfSome job.now.asked.now.prelude (λ n. n < length job.now.asked.now.files) }
-    ensures ok { IfOk result (Reports (output.Check only_roots) (asked_in job.now) options.now.steps
+    ensures ok { IfOk result (Reports (output.Check only_roots) (asked_in job.now) options.now.mode
         (W.taken writer.old) (W.taken writer.new)) }
     ensures untold { IfOk result (λ _. options.now.explain ≡ None → errors.new ≡ errors.old) }
     ensures refused { IfErr result (IsRefusedRun (writer.new ≡ writer.old)) }
@@ -402,8 +404,8 @@ pub(crate) fn reported_over<'t, H: Threads + Wait + Sync, W: Sink, E: Sink>(
     requires roots { All (λ n. n < length job.now.asked.now.files) job.now.asked.now.roots.items }
     requires prelude { IfSome job.now.asked.now.prelude (λ n. n < length job.now.asked.now.files) }
     requires loaders { (1 ≤ options.now.loaders) × (options.now.loaders ≤ 64) }
-    requires steps { (1 ≤ options.now.steps) × (options.now.steps ≤ 100000000) }
-    ensures ok { IfOk result (Reports options.now.output (asked_in job.now) options.now.steps (W.taken writer.old)
+    requires steps { (1 ≤ options.now.mode.steps) × (options.now.mode.steps ≤ 100000000) }
+    ensures ok { IfOk result (Reports options.now.output (asked_in job.now) options.now.mode (W.taken writer.old)
         (W.taken writer.new)) }
     ensures traced { IfOk result (λ all_ok.
         IsTraced E.taken E.failed options.now (asked_in job.now) all_ok errors.old errors.new) }
@@ -455,8 +457,8 @@ pub(crate) fn reported<H: Threads + Wait + Sync, W: Sink, E: Sink>(
     requires roots { All (λ n. n < length asked.now.files) asked.now.roots.items }
     requires prelude { IfSome asked.now.prelude (λ n. n < length asked.now.files) }
     requires loaders { (1 ≤ options.now.loaders) × (options.now.loaders ≤ 64) }
-    requires steps { (1 ≤ options.now.steps) × (options.now.steps ≤ 100000000) }
-    ensures ok { IfOk result (Reports options.now.output (asked_view asked.now) options.now.steps (W.taken writer.old)
+    requires steps { (1 ≤ options.now.mode.steps) × (options.now.mode.steps ≤ 100000000) }
+    ensures ok { IfOk result (Reports options.now.output (asked_view asked.now) options.now.mode (W.taken writer.old)
         (W.taken writer.new)) }
     ensures traced { IfOk result (λ all_ok.
         IsTraced E.taken E.failed options.now (asked_view asked.now) all_ok errors.old errors.new) }
@@ -493,7 +495,7 @@ pub fn serve<H: Threads + Wait + Sync, R: Source, W: Sink, E: Sink>(
     options: &Options,
 ) -> Result<bool, ServeError>
     requires loaders { (1 ≤ options.now.loaders) × (options.now.loaders ≤ 64) }
-    requires steps { (1 ≤ options.now.steps) × (options.now.steps ≤ 100000000) }
+    requires steps { (1 ≤ options.now.mode.steps) × (options.now.mode.steps ≤ 100000000) }
 
     // All was read, and it is a bundle that has each root and the prelude. Its report was written, and nothing else.
     // Nothing was written to `errors` but lines of loads that lie on cycles, unless a write to it failed.

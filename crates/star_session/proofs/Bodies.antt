@@ -7,6 +7,7 @@ use Rattle.std.specs.Prelude.{codes}
 use Rattle.serde_json.specs.Data.{Data, array, member, no_members, number, object, unsigned}
 use Rattle.serde_json.specs.View.{items_of}
 use Rattle.serde_json.specs.Written.{compact_text}
+use Rattle.star_dialect.specs.declared.Mode.{Mode}
 use Rattle.star_report.specs.Wanted.{Full, full_data, is_shown}
 use Rattle.star_label.specs.Files.{File, IsOrdered}
 use Rattle.star_outcome.specs.GoodEnds.{AreReachedEnds}
@@ -45,14 +46,14 @@ ends wanted files plan text full = by (full_text wanted files plan full.begun fu
     by : (t : List ℕ) → Ends t → text ≡ t → take (length text - 1) text ++ 10 ∷ [] ≡ text
     by t h e = without_end text h.body (e ∙ h.is)
 
-pub body_of : (wanted : Wanted) (files : List File) (roots : List ℕ) (prelude : Option ℕ) (steps : ℕ) (text body : List ℕ) (n : ℕ) (ok : Bool) → n ≡ length text → body ≡ take (n - 1) text
-    → InPlanOf files roots prelude steps (λ plan. IsOutput (Report wanted) files plan text ok) → InPlanOf files roots prelude steps (λ plan. IsOutput (Report wanted) files plan (body ++ 10 ∷ []) ok)
-body_of wanted files roots prelude steps text body n ok size is (plan, planned, of_roots, of_prelude, of_steps, both) =
+pub body_of : (wanted : Wanted) (files : List File) (roots : List ℕ) (prelude : Option ℕ) (mode : Mode) (text body : List ℕ) (n : ℕ) (ok : Bool) → n ≡ length text → body ≡ take (n - 1) text
+    → InPlanOf files roots prelude mode (λ plan. IsOutput (Report wanted) files plan text ok) → InPlanOf files roots prelude mode (λ plan. IsOutput (Report wanted) files plan (body ++ 10 ∷ []) ok)
+body_of wanted files roots prelude mode text body n ok size is (plan, planned, of_roots, of_prelude, of_mode, both) =
     let same : body ++ 10 ∷ [] ≡ text = ap (λ b. b ++ 10 ∷ []) (is ∙ ap (λ m. take (m - 1) text) size) ∙ ends wanted files plan text both.0 in
-    (plan, planned, of_roots, of_prelude, of_steps, (subst (IsFullText wanted files plan) (sym same) both.0, both.1))
+    (plan, planned, of_roots, of_prelude, of_mode, (subst (IsFullText wanted files plan) (sym same) both.0, both.1))
 
 -- the good ends that a run leaves are outcomes of its files
-pub left_in : (files : List File) (roots : List ℕ) (prelude : Option ℕ) (steps : ℕ) (es : List (Option GoodEnd)) → IsOrdered files → InPlanOf files roots prelude steps (λ plan. AreReachedEnds plan es) → AreOutcomes files prelude steps es
-left_in files roots prelude steps es ordered (plan, planned, of_roots, of_prelude, of_steps, are) =
-    subst (λ n. AreOutcomes files prelude n es) of_steps
-    (subst (λ p. AreOutcomes files p plan.steps es) of_prelude (left_by files plan es ordered planned are))
+pub left_in : (files : List File) (roots : List ℕ) (prelude : Option ℕ) (mode : Mode) (es : List (Option GoodEnd)) → IsOrdered files → InPlanOf files roots prelude mode (λ plan. AreReachedEnds plan es) → AreOutcomes files prelude mode es
+left_in files roots prelude mode es ordered (plan, planned, of_roots, of_prelude, of_mode, are) =
+    subst (λ n. AreOutcomes files prelude n es) of_mode
+    (subst (λ p. AreOutcomes files p plan.mode es) of_prelude (left_by files plan es ordered planned are))

@@ -75,7 +75,7 @@ limits_kept made entries files e none is =
 -- a report for the words that are looked up among files within all limits
 pub report_of_asked : (before files : List File) (a : Asking) (roots : List (List ℕ)) (prelude : Option (List ℕ)) (asked : Asked) (report : List ℕ) (ok : Bool)
     → limited before a ≡ Ok files → files ≡ files_after before a.changes → roots ≡ a.roots → prelude ≡ a.prelude → asked_among roots prelude files ≡ Ok asked
-    → InPlanOf asked.files asked.roots asked.prelude a.steps (λ plan. IsOutput (Report a.wanted) asked.files plan (report ++ 10 ∷ []) ok)
+    → InPlanOf asked.files asked.roots asked.prelude a.mode (λ plan. IsOutput (Report a.wanted) asked.files plan (report ++ 10 ∷ []) ok)
     → IsReportOf asked.files a report
 report_of_asked before files a roots prelude asked report ok limits same rs p h is =
     let these : asked.files ≡ files_after before a.changes = asked_files roots prelude files asked h ∙ same in

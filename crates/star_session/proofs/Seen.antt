@@ -16,7 +16,7 @@ use Rattle.star_session.specs.declared.request.Request.{Request}
 
 -- a request without changes
 with_changes : Request → List Change → Asking
-with_changes v cs = record { changes = cs; roots = (asked_by v).roots; prelude = (asked_by v).prelude; steps = (asked_by v).steps; wanted = (asked_by v).wanted }
+with_changes v cs = record { changes = cs; roots = (asked_by v).roots; prelude = (asked_by v).prelude; mode = (asked_by v).mode; wanted = (asked_by v).wanted }
 
 unchanged : (v : Request) → v.changes.items ≡ [] → asked_by v ≡ question_of v.question
 unfolding with_changes

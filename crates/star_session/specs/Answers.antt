@@ -2,6 +2,7 @@
 use Rattle.std.specs.Prelude.{◌≡◌, ◌⊎◌, ◌++◌, ◌∷◌, [], ℕ, List, Bool, Result, Ok, Err, codes}
 use Rattle.serde_json.specs.Data.{Data, string}
 use Rattle.serde_json.specs.Written.{compact_text}
+use Rattle.star_dialect.specs.declared.Mode.{Mode}
 use Rattle.star_bundle.specs.Bundle.{Asked, asked_among, within_limits, ◌>>=◌}
 use Rattle.star_bundle.specs.Refusal.{text_of}
 use Rattle.star_bundle.specs.declared.error.ServeError.{ServeError}
@@ -34,17 +35,17 @@ abbrev pub asked_after : List File → Asking → Result Asked ServeError
 asked_after before a = asks_among (files_after before a.changes) a
 
 -- this is the text of the report of the input, with the further members that are wanted, without its line end
-abbrev pub IsReportText : Wanted → Asked → ℕ → List ℕ → Type 0
-IsReportText wanted asked steps report = (ok : Bool) × InPlanOf asked.files asked.roots asked.prelude steps
+abbrev pub IsReportText : Wanted → Asked → Mode → List ℕ → Type 0
+IsReportText wanted asked mode report = (ok : Bool) × InPlanOf asked.files asked.roots asked.prelude mode
     (λ plan. IsOutput (Report wanted) asked.files plan (report ++ 10 ∷ []) ok)
 
--- This is exactly a report of these files for the roots, the prelude, the steps and the wanted members: its text
+-- This is exactly a report of these files for the roots, the prelude, the mode and the wanted members: its text
 -- without its line end.
 pub record IsReportOf (files : List File) (a : Asking) (report : List ℕ) : Type 0 where
   pub asked : Asked
   pub asks : asks_among files a ≡ Ok asked
   pub ok : Bool
-  pub reports : InPlanOf files asked.roots asked.prelude a.steps
+  pub reports : InPlanOf files asked.roots asked.prelude a.mode
       (λ plan. IsOutput (Report a.wanted) files plan (report ++ 10 ∷ []) ok)
 
 -- The answer is the line with the request's id and a report of the files after its changes.

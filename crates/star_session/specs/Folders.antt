@@ -53,7 +53,7 @@ IsUnseen said known a e = IsUnread (told said known a.changes) a.roots a.prelude
 
 -- the same question, where no file changes
 abbrev pub again : Asking → Asking
-again a = record { changes = []; roots = a.roots; prelude = a.prelude; steps = a.steps; wanted = a.wanted }
+again a = record { changes = []; roots = a.roots; prelude = a.prelude; mode = a.mode; wanted = a.wanted }
 
 -- the text of a reason
 abbrev pub text_for : RepoError → List ℕ

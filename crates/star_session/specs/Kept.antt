@@ -18,7 +18,7 @@ IsLast files last = IfSome last (λ l. IsReportOf files (question_of l.question)
 -- and the last report
 pub record AreKeptFor (files : List File) (k : KeptValues) : Type 0 where
   pub parses : AreKept files k.parses.all.items
-  pub outcomes : AreOutcomes files k.outcomes.terms.prelude k.outcomes.terms.steps k.outcomes.all.items
+  pub outcomes : AreOutcomes files k.outcomes.terms.prelude k.outcomes.terms.mode k.outcomes.all.items
   pub last : IsLast files k.last
 
 -- so are the results of reading them

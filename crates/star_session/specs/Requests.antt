@@ -5,6 +5,9 @@ use Rattle.serde_json.specs.Data.{Data, null, boolean, number, string, array, ob
 use Rattle.serde_json.specs.Written.{IsInOrder, compact_text, has_float}
 use Rattle.serde_json.specs.Find.{as_array, as_number, as_object, as_str, as_u64, get}
 use Rattle.star_bundle.specs.Bundle.{is_label, json_of}
+use Rattle.star_dialect.specs.Words.{dialect_named}
+use Rattle.star_dialect.specs.declared.Dialect.{Dialect}
+use Rattle.star_dialect.specs.declared.Mode.{Mode}
 use Rattle.star_report.specs.declared.wanted.Wanted.{Wanted}
 use Rattle.star_words.specs.Words.{label_of_path}
 use Rattle.star_session.specs.Changes.{Change, change_of}
@@ -15,15 +18,15 @@ use Rattle.star_session.specs.declared.request.Origin.{Origin}
 use Rattle.star_session.specs.declared.request.Origin.TheVariants.{Folder, Sent}
 use Rattle.star_session.specs.declared.request.Request.{Request}
 use Rattle.star_session.specs.declared.request.RequestError.{RequestError}
-use Rattle.star_session.specs.declared.request.RequestError.TheVariants.{NotObject, NoRoots, BadRoots, NoMember, BadFiles, NoFiles, BadChanged, BadLabel, BadPrelude, BadSteps, BadWith, Memory}
+use Rattle.star_session.specs.declared.request.RequestError.TheVariants.{NotObject, NoRoots, BadRoots, NoMember, BadFiles, NoFiles, BadChanged, BadLabel, BadPrelude, BadSteps, BadLanguage, BadWith, Memory}
 
 -- A request: changes of the files, and the report of the files after them. The report is for these roots, with this
--- prelude, these steps for each file, and these wanted members.
+-- prelude, with files in this mode, and these wanted members.
 pub record Asking : Type 0 where
   pub changes : List Change
   pub roots : List (List ℕ)
   pub prelude : Option (List ℕ)
-  pub steps : ℕ
+  pub mode : Mode
   pub wanted : Wanted
 
 -- how many steps a file may take
@@ -140,6 +143,15 @@ steps_in d = do
   n ← there_or bad_steps (as_u64 value)
   if nat_le 1 n && nat_le n 100000000 then Ok n else Err bad_steps
 
+abbrev pub bad_language : List ℕ
+bad_language = codes "`language` must be core or extended"
+
+-- a language
+abbrev pub language_in : Data → Result Dialect (List ℕ)
+language_in d = do
+  word ← there_or bad_language (as_str d)
+  there_or bad_language (dialect_named word)
+
 abbrev pub bad_with : List ℕ
 bad_with = codes "`with` must be an array of some of values, loads, steps, only-roots"
 
@@ -172,26 +184,34 @@ nothing_more = record { values = false; loads = false; steps = false; only_roots
 abbrev pub wanted_in : Data → Result Wanted (List ℕ)
 wanted_in d = there_or bad_with (as_array d) >>= with_words nothing_more
 
+-- a request with another mode
+abbrev pub with_mode : Asking → Mode → Asking
+with_mode a mode =
+    record { changes = a.changes; roots = a.roots; prelude = a.prelude; mode = mode; wanted = a.wanted }
+
 -- A request with a further member taken into it. The members `id` and `roots` are looked up separately.
 unfoldable pub with_member : Origin → Asking → List ℕ → Data → Result Asking (List ℕ)
 with_member origin a name d =
     if bytes_eq name (codes "id") || bytes_eq name (codes "roots") then Ok a
     else (if bytes_eq name (codes "files")
     then files_in origin d >>= (λ cs.
-    Ok (record { changes = cs; roots = a.roots; prelude = a.prelude; steps = a.steps; wanted = a.wanted }))
+    Ok (record { changes = cs; roots = a.roots; prelude = a.prelude; mode = a.mode; wanted = a.wanted }))
     else (if bytes_eq name (codes "changed")
     then changed_in origin d >>= (λ cs.
-    Ok (record { changes = cs; roots = a.roots; prelude = a.prelude; steps = a.steps; wanted = a.wanted }))
+    Ok (record { changes = cs; roots = a.roots; prelude = a.prelude; mode = a.mode; wanted = a.wanted }))
     else (if bytes_eq name (codes "prelude")
     then prelude_in d >>= (λ p.
-    Ok (record { changes = a.changes; roots = a.roots; prelude = p; steps = a.steps; wanted = a.wanted }))
+    Ok (record { changes = a.changes; roots = a.roots; prelude = p; mode = a.mode; wanted = a.wanted }))
     else (if bytes_eq name (codes "steps")
     then steps_in d >>= (λ n.
-    Ok (record { changes = a.changes; roots = a.roots; prelude = a.prelude; steps = n; wanted = a.wanted }))
+    Ok (with_mode a (record { steps = n; dialect = a.mode.dialect })))
+    else (if bytes_eq name (codes "language")
+    then language_in d >>= (λ l.
+    Ok (with_mode a (record { steps = a.mode.steps; dialect = l })))
     else (if bytes_eq name (codes "with")
     then wanted_in d >>= (λ w.
-    Ok (record { changes = a.changes; roots = a.roots; prelude = a.prelude; steps = a.steps; wanted = w }))
-    else Err (no_member name))))))
+    Ok (record { changes = a.changes; roots = a.roots; prelude = a.prelude; mode = a.mode; wanted = w }))
+    else Err (no_member name)))))))
 
 -- .. with further members
 unfoldable pub with_members : Origin → Asking → Members → Result Asking (List ℕ)
@@ -204,7 +224,7 @@ plain defaults roots = record {
   changes = [];
   roots = roots;
   prelude = option_map string_bytes defaults.prelude;
-  steps = defaults.steps;
+  mode = defaults.mode;
   wanted = defaults.wanted;
 }
 
@@ -253,7 +273,7 @@ question_of q = record {
   changes = [];
   roots = map string_bytes q.roots.items;
   prelude = option_map string_bytes q.prelude;
-  steps = q.steps;
+  mode = q.mode;
   wanted = q.wanted;
 }
 
@@ -263,7 +283,7 @@ asked_by r = record {
   changes = map change_of r.changes.items;
   roots = map string_bytes r.question.roots.items;
   prelude = option_map string_bytes r.question.prelude;
-  steps = r.question.steps;
+  mode = r.question.mode;
   wanted = r.question.wanted;
 }
 
@@ -279,6 +299,7 @@ text_of BadChanged = bad_changed
 text_of (BadLabel label) = bad_label (string_bytes label)
 text_of BadPrelude = bad_prelude
 text_of BadSteps = bad_steps
+text_of BadLanguage = bad_language
 text_of BadWith = bad_with
 text_of Memory = codes "out of memory"
 

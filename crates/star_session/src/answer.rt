@@ -23,6 +23,7 @@ use crate::standing::{Last, Standing, Staying};
 use crate::weight::{Limits, Spent, are_values_large, ballast_for, spent_on};
 use star_bundle::bundle::{AskedFor, asked_in};
 use star_bundle::error::ServeError;
+use star_dialect::Mode;
 use star_label::files::Files;
 use star_memo::compared::Compared;
 use star_memo::lasting::first_to_run;
@@ -57,18 +58,18 @@ fn run_over<H: Threads + Wait + Sync>(
     staying: &mut Staying<'_>,
     options: &Options,
 ) -> Result<Finished, ServeError>
-    requires ends { AreEndsNow asked.now.files asked.now.prelude options.now.steps staying.old.outcomes.all.items }
+    requires ends { AreEndsNow asked.now.files asked.now.prelude options.now.mode staying.old.outcomes.all.items }
     requires readings { AreReadings asked.now.files staying.old.readings }
     requires seen { staying.old.readings.prelude ≡ asked.now.prelude }
     requires roots { All (λ n. n < length asked.now.files) asked.now.roots.items }
     requires prelude { IfSome asked.now.prelude (λ n. n < length asked.now.files) }
     requires loaders { (1 ≤ options.now.loaders) × (options.now.loaders ≤ 64) }
-    requires steps { (1 ≤ options.now.steps) × (options.now.steps ≤ 100000000) }
+    requires steps { (1 ≤ options.now.mode.steps) × (options.now.mode.steps ≤ 100000000) }
     ensures kinds { IfErr result (λ e. (e ≡ ServeError.Memory) ⊎ (e ≡ ServeError.Unpublished)) }
     ensures text { let o = options.now in IfOk result (λ f.
-        IsOutputFor o.output (asked_view asked.now) o.steps f.written.text.items f.written.all_ok) }
+        IsOutputFor o.output (asked_view asked.now) o.mode f.written.text.items f.written.all_ok) }
     ensures ends { IfOk result (λ f.
-        AreOutcomes asked.now.files asked.now.prelude options.now.steps f.ends.items) }
+        AreOutcomes asked.now.files asked.now.prelude options.now.mode f.ends.items) }
     ensures readings { IfOk result (λ _. AreReadings asked.now.files staying.new.readings) }
     ensures seen { staying.new.readings.prelude ≡ staying.old.readings.prelude }
     ensures parses { staying.new.parses ≡ staying.old.parses }
@@ -177,19 +178,19 @@ fn report_of<H: Threads + Wait + Sync>(
     staying: &mut Staying<'_>,
     wanted: Wanted,
     loaders: usize,
-    steps: u32,
+    mode: Mode,
 ) -> Result<Reported, ServeError>
     requires parses { AreKept asked.now.files staying.old.parses.all.items }
-    requires ends { AreEndsNow asked.now.files asked.now.prelude steps staying.old.outcomes.all.items }
+    requires ends { AreEndsNow asked.now.files asked.now.prelude mode staying.old.outcomes.all.items }
     requires readings { AreReadings asked.now.files staying.old.readings }
     requires seen { staying.old.readings.prelude ≡ asked.now.prelude }
     requires roots { All (λ n. n < length asked.now.files) asked.now.roots.items }
     requires prelude { IfSome asked.now.prelude (λ n. n < length asked.now.files) }
     requires loaders { (1 ≤ loaders) × (loaders ≤ 64) }
-    requires steps { (1 ≤ steps) × (steps ≤ 100000000) }
+    requires steps { (1 ≤ mode.steps) × (mode.steps ≤ 100000000) }
     ensures kinds { IfErr result (λ e. (e ≡ ServeError.Memory) ⊎ (e ≡ ServeError.Unpublished)) }
-    ensures report { IfOk result (λ r. IsReportText wanted (asked_view asked.now) steps r.text.items) }
-    ensures ends { IfOk result (λ r. AreOutcomes asked.now.files asked.now.prelude steps r.ends.items) }
+    ensures report { IfOk result (λ r. IsReportText wanted (asked_view asked.now) mode r.text.items) }
+    ensures ends { IfOk result (λ r. AreOutcomes asked.now.files asked.now.prelude mode r.ends.items) }
     ensures parses { IfOk result (λ _. AreKept asked.now.files staying.new.parses.all.items) }
     ensures readings { IfOk result (λ _. AreReadings asked.now.files staying.new.readings) }
     ensures seen { staying.new.readings.prelude ≡ staying.old.readings.prelude }
@@ -201,7 +202,7 @@ fn report_of<H: Threads + Wait + Sync>(
         roots: Vec::new(alloc),
         prelude: None,
         loaders,
-        steps,
+        mode,
         output: Output::Report(wanted),
         trace: false,
         dir: None,
@@ -238,19 +239,19 @@ fn run_changed<H: Threads + Wait + Sync>(
     changed: Vec<usize>,
     staying: &mut Staying<'_>,
     loaders: usize,
-    steps: u32,
+    mode: Mode,
 ) -> Result<Vec<Option<GoodEnd>>, ServeError>
     requires changed { All (λ n. n < length asked.old.files) changed.items }
     requires parses { AreKept asked.old.files staying.old.parses.all.items }
-    requires ends { AreEndsNow asked.old.files asked.old.prelude steps staying.old.outcomes.all.items }
+    requires ends { AreEndsNow asked.old.files asked.old.prelude mode staying.old.outcomes.all.items }
     requires readings { AreReadings asked.old.files staying.old.readings }
     requires seen { staying.old.readings.prelude ≡ asked.old.prelude }
     requires prelude { IfSome asked.old.prelude (λ n. n < length asked.old.files) }
     requires loaders { (1 ≤ loaders) × (loaders ≤ 64) }
-    requires steps { (1 ≤ steps) × (steps ≤ 100000000) }
+    requires steps { (1 ≤ mode.steps) × (mode.steps ≤ 100000000) }
     ensures asked { asked.new ≡ asked.old }
     ensures kinds { IfErr result (λ e. (e ≡ ServeError.Memory) ⊎ (e ≡ ServeError.Unpublished)) }
-    ensures ends { IfOk result (λ ends. AreOutcomes asked.old.files asked.old.prelude steps ends.items) }
+    ensures ends { IfOk result (λ ends. AreOutcomes asked.old.files asked.old.prelude mode ends.items) }
     ensures parses { IfOk result (λ _. AreKept asked.old.files staying.new.parses.all.items) }
     ensures readings { IfOk result (λ _. AreReadings asked.old.files staying.new.readings) }
     ensures seen { staying.new.readings.prelude ≡ staying.old.readings.prelude }
@@ -259,7 +260,7 @@ fn run_changed<H: Threads + Wait + Sync>(
     ensures same { staying.new.same ≡ staying.old.same }
 {
     let roots = mem::replace(&mut asked.roots, changed);
-    let reported = report_of(rt, alloc, asked, staying, Wanted::NOTHING, loaders, steps);
+    let reported = report_of(rt, alloc, asked, staying, Wanted::NOTHING, loaders, mode);
     asked.roots = roots;
     let Reported { ends, .. } = reported?;
     Ok(ends)
@@ -292,15 +293,15 @@ fn keep_lasting<H: Threads + Wait + Sync>(
     asked: &mut AskedFor,
     staying: &mut Staying<'_>,
     limits: Limits,
-    steps: u32,
+    mode: Mode,
 ) -> Result<(), ServeError>
     requires prelude { IfSome asked.old.prelude (λ n. n < length asked.old.files) }
     requires loaders { (1 ≤ limits.loaders) × (limits.loaders ≤ 64) }
-    requires steps { (1 ≤ steps) × (steps ≤ 100000000) }
+    requires steps { (1 ≤ mode.steps) × (mode.steps ≤ 100000000) }
     requires parses { AreKept asked.old.files staying.old.parses.all.items }
-    requires outcomes { AreOutcomes asked.old.files asked.old.prelude steps staying.old.outcomes.all.items }
-    requires terms { staying.old.outcomes.terms ≡ record { prelude = asked.old.prelude; steps = steps } }
-    requires former { AreOutcomes before.now asked.old.prelude steps staying.old.former.items }
+    requires outcomes { AreOutcomes asked.old.files asked.old.prelude mode staying.old.outcomes.all.items }
+    requires terms { staying.old.outcomes.terms ≡ record { prelude = asked.old.prelude; mode = mode } }
+    requires former { AreOutcomes before.now asked.old.prelude mode staying.old.former.items }
     requires alike { 0 < length staying.old.former.items → AreAlike before.now asked.old.files asked.old.prelude }
     requires same { AreSame before.now asked.old.files staying.old.same.items }
     requires readings { AreReadings asked.old.files staying.old.readings }
@@ -308,7 +309,7 @@ fn keep_lasting<H: Threads + Wait + Sync>(
     ensures asked { asked.new ≡ asked.old }
     ensures kinds { IfErr result (λ e. (e ≡ ServeError.Memory) ⊎ (e ≡ ServeError.Unpublished)) }
     ensures ends { OnOk result
-        (AreEndsNow asked.old.files asked.old.prelude steps staying.new.outcomes.all.items) }
+        (AreEndsNow asked.old.files asked.old.prelude mode staying.new.outcomes.all.items) }
     ensures terms { staying.new.outcomes.terms ≡ staying.old.outcomes.terms }
     ensures parses { OnOk result (AreKept asked.old.files staying.new.parses.all.items) }
     ensures readings { OnOk result (AreReadings asked.old.files staying.new.readings) }
@@ -319,7 +320,7 @@ fn keep_lasting<H: Threads + Wait + Sync>(
     let Some(changed) = first_within(alloc, &compared, former, limits.keep)? else {
         return Ok(());
     };
-    let ends = match run_changed(rt, alloc, asked, changed, staying, limits.loaders, steps) {
+    let ends = match run_changed(rt, alloc, asked, changed, staying, limits.loaders, mode) {
         Ok(ends) => ends,
         Err(error) => return Err(error),
     };
@@ -380,14 +381,14 @@ fn report_after<'t, H: Threads + Wait + Sync>(
 ) -> Result<After<'t>, ServeError>
     requires standing { IsStanding standing.old }
     requires loaders { (1 ≤ limits.loaders) × (limits.loaders ≤ 64) }
-    requires steps { (1 ≤ request.question.steps) × (request.question.steps ≤ 100000000) }
+    requires steps { (1 ≤ request.question.mode.steps) × (request.question.mode.steps ≤ 100000000) }
     ensures files { standing.new.files ≡ standing.old.files }
     ensures standing { IsStanding standing.new }
     ensures after { IfOk result (λ a.
         a.files ≡ spec.files_after standing.old.files (map change_of request.changes.items)) }
     ensures parses { IfOk result (λ a. AreKept a.files a.parses.all.items) }
     ensures outcomes { IfOk result (λ a.
-        AreOutcomes a.files a.outcomes.terms.prelude a.outcomes.terms.steps a.outcomes.all.items) }
+        AreOutcomes a.files a.outcomes.terms.prelude a.outcomes.terms.mode a.outcomes.all.items) }
     ensures readings { IfOk result (λ a. AreReadings a.files a.readings) }
     ensures question { IfOk result (λ a. a.last.question ≡ request.question) }
     ensures report { IfOk result (λ a. IsReportOf a.files (question_of a.last.question) a.last.report.items) }
@@ -403,19 +404,19 @@ fn report_after<'t, H: Threads + Wait + Sync>(
         Ok(asked) => asked,
         Err(error) => return Err(error),
     };
-    let (steps, wanted) = (question.steps, question.wanted);
+    let (mode, wanted) = (question.mode, question.wanted);
     let Crew { loaders, ballast } = crew_for(&asked.files, limits, standing.kept.spent);
     let terms = Terms {
         prelude: asked.prelude,
-        steps,
+        mode,
     };
     let mut staying = standing.staying(rt, alloc, &asked.files, terms, loaders, ballast)?;
     let limits = Limits { loaders, ..limits };
     let before = &standing.files;
-    keep_lasting(rt, alloc, before, &mut asked, &mut staying, limits, steps)?;
+    keep_lasting(rt, alloc, before, &mut asked, &mut staying, limits, mode)?;
     let former = mem::replace(&mut staying.former, Vec::new(alloc));
     free_ends(rt, alloc, former, loaders);
-    let reported = report_of(rt, alloc, &asked, &mut staying, wanted, loaders, steps)?;
+    let reported = report_of(rt, alloc, &asked, &mut staying, wanted, loaders, mode)?;
     let Reported {
         text: report,
         ends,
@@ -447,7 +448,7 @@ pub(crate) fn answered<H: Threads + Wait + Sync>(
 ) -> Result<Vec<u8>, ServeError>
     requires standing { IsStanding standing.old }
     requires loaders { (1 ≤ limits.loaders) × (limits.loaders ≤ 64) }
-    requires steps { (1 ≤ request.question.steps) × (request.question.steps ≤ 100000000) }
+    requires steps { (1 ≤ request.question.mode.steps) × (request.question.mode.steps ≤ 100000000) }
     ensures standing { IsStanding standing.new }
     ensures reports { IfOk result (λ line. (d : Data) → IsIdText d id.now
         → IsReported standing.old.files d (asked_by request) standing.new.files line.items) }

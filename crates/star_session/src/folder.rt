@@ -288,7 +288,7 @@ fn seen<H: Threads + Wait + Sync>(
 ) -> Result<Vec<u8>, AllocError>
     requires standing { IsStanding standing.old }
     requires loaders { (1 ≤ limits.loaders) × (limits.loaders ≤ 64) }
-    requires steps { (1 ≤ question.steps) × (question.steps ≤ 100000000) }
+    requires steps { (1 ≤ question.mode.steps) × (question.mode.steps ≤ 100000000) }
     ensures standing { IsStanding standing.new }
     ensures answered { IfOk result (λ line.
         AnswersSeen id.now (question_of question) standing.old.files standing.new.files line.items) }
@@ -315,7 +315,7 @@ pub(crate) fn answered_from<H: Threads + Wait + Sync, F: Repo + Copy + Sync>(
     request: Request,
     limits: Limits,
 ) -> Result<Vec<u8>, AllocError>
-    requires steps { (1 ≤ request.question.steps) × (request.question.steps ≤ 100000000) }
+    requires steps { (1 ≤ request.question.mode.steps) × (request.question.mode.steps ≤ 100000000) }
     requires standing { IsStanding standing.old }
     requires loaders { (1 ≤ limits.loaders) × (limits.loaders ≤ 64) }
     ensures standing { IsStanding standing.new }

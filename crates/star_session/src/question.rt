@@ -3,6 +3,7 @@
 ghost use Rattle.std.specs.Prelude.{◌≡◌, true, map, option_map, string_bytes};
 ghost use Rattle.star_session.specs.Requests.{question_of};
 
+use star_dialect::Mode;
 use star_report::wanted::Wanted;
 
 /// The question of a request: which report of the files it asks for.
@@ -12,8 +13,8 @@ pub struct Question {
     pub roots: Vec<String>,
     /// The label of the prelude.
     pub prelude: Option<String>,
-    /// How many steps a file may take, from 1 to 100,000,000.
-    pub steps: u32,
+    /// The mode in which files run: a file may take from 1 to 100,000,000 steps.
+    pub mode: Mode,
     /// The further members of each module that are wanted.
     pub wanted: Wanted,
 }
@@ -56,7 +57,7 @@ impl Question {
     pub fn is_same(&self, other: &Question) -> bool
         ensures { result ≡ true → question_of self.now ≡ question_of other.now }
     {
-        self.steps == other.steps
+        self.mode == other.mode
             && self.wanted == other.wanted
             && is_same_text(&self.prelude, &other.prelude)
             && are_same(self.roots.as_slice(), other.roots.as_slice())

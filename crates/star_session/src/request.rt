@@ -13,6 +13,7 @@ ghost use Rattle.star_words.specs.Words.{label_of_path};
 use crate::question::Question;
 use serde_json::{Map, Value};
 use star_bundle::bundle::{into_members, json_in, normal_label};
+use star_dialect::{Dialect, Mode};
 use star_label::label::Label;
 use star_report::wanted::Wanted;
 use star_words::words::label_of;
@@ -34,8 +35,8 @@ pub struct Defaults {
     pub origin: Origin,
     /// The label of the prelude.
     pub prelude: Option<String>,
-    /// How many steps a file may take, from 1 to 100,000,000.
-    pub steps: u32,
+    /// The mode in which files run: a file may take from 1 to 100,000,000 steps.
+    pub mode: Mode,
     /// The further members of each module that are wanted.
     pub wanted: Wanted,
 }
@@ -72,6 +73,8 @@ pub enum RequestError {
     BadPrelude,
     /// `steps` is not a number from 1 to 100,000,000.
     BadSteps,
+    /// `language` is not one of its words.
+    BadLanguage,
     /// `with` is not an array of its words.
     BadWith,
     /// A growth was refused.
@@ -95,6 +98,7 @@ impl RequestError {
             RequestError::BadLabel { .. } => false,
             RequestError::BadPrelude => false,
             RequestError::BadSteps => false,
+            RequestError::BadLanguage => false,
             RequestError::BadWith => false,
         }
     }
@@ -118,6 +122,7 @@ impl RequestError {
             }
             RequestError::BadPrelude => "`prelude` must be a label or null",
             RequestError::BadSteps => "`steps` must be a number from 1 to 100000000",
+            RequestError::BadLanguage => "`language` must be core or extended",
             RequestError::BadWith => {
                 "`with` must be an array of some of values, loads, steps, only-roots"
             }
@@ -343,6 +348,20 @@ fn steps_in(value: &Value) -> Result<u32, RequestError>
     }
 }
 
+/// The language of a request.
+fn language_in(value: &Value) -> Result<Dialect, RequestError>
+    ensures ok { IfOk result (λ d. spec.language_in (view value.now) ≡ Ok d) }
+    ensures refused { IfErr result (λ e. IsWhy e (spec.language_in (view value.now))) }
+{
+    let Some(word) = value.as_str() else {
+        return Err(RequestError::BadLanguage);
+    };
+    match Dialect::named(word) {
+        Some(dialect) => Ok(dialect),
+        None => Err(RequestError::BadLanguage),
+    }
+}
+
 /// The further members of each module that a request wants.
 fn wanted_in(value: &Value) -> Result<Wanted, RequestError>
     ensures ok { IfOk result (λ w. spec.wanted_in (view value.now) ≡ Ok w) }
@@ -369,7 +388,7 @@ fn take_member(
 ) -> Result<(), RequestError>
     ensures ok { OnOk result (spec.with_member origin (asked_by request.old) (string_bytes name) (view value)
         ≡ Ok (asked_by request.new)) }
-    ensures steps { spec.AreSteps request.old.question.steps → spec.AreSteps request.new.question.steps }
+    ensures steps { spec.AreSteps request.old.question.mode.steps → spec.AreSteps request.new.question.mode.steps }
     ensures refused { IfErr result (λ e.
         IsWhy e (spec.with_member origin (asked_by request.old) (string_bytes name) (view value))) }
 {
@@ -380,7 +399,8 @@ fn take_member(
             request.changes = changed_in(alloc, origin, &value)?;
         }
         "prelude" => request.question.prelude = prelude_in(value)?,
-        "steps" => request.question.steps = steps_in(&value)?,
+        "steps" => request.question.mode.steps = steps_in(&value)?,
+        "language" => request.question.mode.dialect = language_in(&value)?,
         "with" => request.question.wanted = wanted_in(&value)?,
         _ => return Err(RequestError::NoMember { name }),
     }
@@ -389,7 +409,7 @@ fn take_member(
 
 /// A request that has these roots, and asks for nothing else than the defaults do.
 fn plain(alloc: Global, roots: Vec<String>, defaults: &Defaults) -> Result<Request, AllocError>
-    requires { (1 ≤ defaults.now.steps) × (defaults.now.steps ≤ 100000000) }
+    requires { (1 ≤ defaults.now.mode.steps) × (defaults.now.mode.steps ≤ 100000000) }
     ensures { IfOk result (λ request. asked_by request ≡ spec.plain defaults.now (map string_bytes roots.items)) }
 {
     let prelude = match &defaults.prelude {
@@ -399,7 +419,7 @@ fn plain(alloc: Global, roots: Vec<String>, defaults: &Defaults) -> Result<Reque
     let question = Question {
         roots,
         prelude,
-        steps: defaults.steps,
+        mode: defaults.mode,
         wanted: defaults.wanted,
     };
     Ok(Request {
@@ -415,10 +435,10 @@ fn with_members(
     mut request: Request,
     mut members: Map<String, Value>,
 ) -> Result<Request, RequestError>
-    requires { (1 ≤ request.question.steps) × (request.question.steps ≤ 100000000) }
+    requires { (1 ≤ request.question.mode.steps) × (request.question.mode.steps ≤ 100000000) }
     ensures ok { IfOk result (λ made. spec.with_members origin (asked_by request) (members_view members.entries)
         ≡ Ok (asked_by made)) }
-    ensures steps { IfOk result (λ made. (1 ≤ made.question.steps) × (made.question.steps ≤ 100000000)) }
+    ensures steps { IfOk result (λ made. (1 ≤ made.question.mode.steps) × (made.question.mode.steps ≤ 100000000)) }
     ensures refused { IfErr result (λ e.
         IsWhy e (spec.with_members origin (asked_by request) (members_view members.entries))) }
 {
@@ -434,9 +454,9 @@ fn with_members(
 /// The request that a value is. The error is about the first thing that is not as it must be.
 #[tactic(auto, unfolding(crate::specs::Requests::asking_in))]
 pub fn request_in(alloc: Global, value: Value, defaults: &Defaults) -> Result<Request, RequestError>
-    requires { (1 ≤ defaults.now.steps) × (defaults.now.steps ≤ 100000000) }
+    requires { (1 ≤ defaults.now.mode.steps) × (defaults.now.mode.steps ≤ 100000000) }
     ensures ok { IfOk result (λ request. spec.asking_in defaults.now (view value) ≡ Ok (asked_by request)) }
-    ensures steps { IfOk result (λ request. (1 ≤ request.question.steps) × (request.question.steps ≤ 100000000)) }
+    ensures steps { IfOk result (λ request. (1 ≤ request.question.mode.steps) × (request.question.mode.steps ≤ 100000000)) }
     ensures refused { IfErr result (λ e. IsWhy e (spec.asking_in defaults.now (view value))) }
 {
     if value.as_object().is_none() {

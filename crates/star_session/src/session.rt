@@ -84,7 +84,7 @@ fn answer_sent<H: Threads + Wait + Sync>(
 ) -> Result<Vec<u8>, AllocError>
     requires standing { IsStanding standing.old }
     requires loaders { (1 ≤ settings.now.loaders) × (settings.now.loaders ≤ 64) }
-    requires steps { (1 ≤ request.question.steps) × (request.question.steps ≤ 100000000) }
+    requires steps { (1 ≤ request.question.mode.steps) × (request.question.mode.steps ≤ 100000000) }
     ensures standing { IsStanding standing.new }
     ensures answered { IfOk result (λ line. AnswersSent settings.now.defaults id.now request
         standing.old.files standing.new.files line.items) }
@@ -108,7 +108,7 @@ fn answer_request<H: Threads + Wait + Sync, F: Repo + Copy + Sync>(
 ) -> Result<Vec<u8>, AllocError>
     requires standing { IsStanding standing.old }
     requires loaders { (1 ≤ settings.now.loaders) × (settings.now.loaders ≤ 64) }
-    requires steps { (1 ≤ request.question.steps) × (request.question.steps ≤ 100000000) }
+    requires steps { (1 ≤ request.question.mode.steps) × (request.question.mode.steps ≤ 100000000) }
     ensures standing { IsStanding standing.new }
     ensures answered { IfOk result (λ line. AnswersRequestIn (F.says folder.now) settings.now.defaults id.now request
         standing.old.files standing.new.files line.items) }
@@ -134,7 +134,7 @@ fn answer_value<H: Threads + Wait + Sync, F: Repo + Copy + Sync>(
 ) -> Result<Vec<u8>, AllocError>
     requires standing { IsStanding standing.old }
     requires loaders { (1 ≤ settings.now.loaders) × (settings.now.loaders ≤ 64) }
-    requires steps { (1 ≤ settings.now.defaults.steps) × (settings.now.defaults.steps ≤ 100000000) }
+    requires steps { (1 ≤ settings.now.defaults.mode.steps) × (settings.now.defaults.mode.steps ≤ 100000000) }
     ensures standing { IsStanding standing.new }
     ensures answered { IfOk result (λ line. AnswersValue (AnswersIn (F.says folder.now) settings.now) (view value)
         standing.old.files standing.new.files line.items) }
@@ -185,7 +185,7 @@ fn answer<H: Threads + Wait + Sync, F: Repo + Copy + Sync>(
 ) -> Result<Vec<u8>, AllocError>
     requires standing { IsStanding standing.old }
     requires loaders { (1 ≤ settings.now.loaders) × (settings.now.loaders ≤ 64) }
-    requires steps { (1 ≤ settings.now.defaults.steps) × (settings.now.defaults.steps ≤ 100000000) }
+    requires steps { (1 ≤ settings.now.defaults.mode.steps) × (settings.now.defaults.mode.steps ≤ 100000000) }
     ensures standing { IsStanding standing.new }
     ensures answered { IfOk result (λ answer. AnswersPiece (AnswersIn (F.says folder.now) settings.now) line bytes.now
         standing.old.files standing.new.files answer.items) }
@@ -261,7 +261,7 @@ fn next_answer<H: Threads + Wait + Sync, F: Repo + Copy + Sync, R: Source, W: Si
     requires standing { IsStanding session.old.standing }
     requires cut { IsCut session.old.lines }
     requires loaders { (1 ≤ settings.now.loaders) × (settings.now.loaders ≤ 64) }
-    requires steps { (1 ≤ settings.now.defaults.steps) × (settings.now.defaults.steps ≤ 100000000) }
+    requires steps { (1 ≤ settings.now.defaults.mode.steps) × (settings.now.defaults.mode.steps ≤ 100000000) }
     ensures standing { IsStanding session.new.standing }
     ensures cut { OnOk result (IsCut session.new.lines) }
     ensures step { IfOk result (IsStepOf R.said W.taken (AnswersIn (F.says folder.now) settings.now)
@@ -303,7 +303,7 @@ fn answer_lines<H: Threads + Wait + Sync, F: Repo + Copy + Sync, R: Source, W: S
     requires standing { IsStanding session.old.standing }
     requires cut { IsCut session.old.lines }
     requires loaders { (1 ≤ settings.now.loaders) × (settings.now.loaders ≤ 64) }
-    requires steps { (1 ≤ settings.now.defaults.steps) × (settings.now.defaults.steps ≤ 100000000) }
+    requires steps { (1 ≤ settings.now.defaults.mode.steps) × (settings.now.defaults.mode.steps ≤ 100000000) }
     ensures standing { IsStanding session.new.standing }
     ensures cut { OnOk result (IsCut session.new.lines) }
     // It is long since a step is of the reader, the writer and the session, each before and after.
@@ -338,7 +338,7 @@ fn answer_generation<H: Threads + Wait + Sync, F: Repo + Copy + Sync, R: Source,
     requires kept { AreKeptFor begin.files begin.kept }
     requires cut { IsCut begin.lines }
     requires loaders { (1 ≤ settings.now.loaders) × (settings.now.loaders ≤ 64) }
-    requires steps { (1 ≤ settings.now.defaults.steps) × (settings.now.defaults.steps ≤ 100000000) }
+    requires steps { (1 ≤ settings.now.defaults.mode.steps) × (settings.now.defaults.mode.steps ≤ 100000000) }
     ensures kept { IfOk result (λ next. IfSome next (λ b. AreKeptFor b.files b.kept)) }
     ensures cut { IfOk result (λ next. IfSome next (λ b. IsCut b.lines)) }
     ensures step { IfOk result (IsGenerationOf R.said W.taken (AnswersIn (F.says folder.now) settings.now)
@@ -381,7 +381,7 @@ pub fn serve_requests<H: Threads + Wait + Sync, F: Repo + Copy + Sync, R: Source
     settings: &Settings,
 ) -> Result<(), ServeError>
     requires loaders { (1 ≤ settings.now.loaders) × (settings.now.loaders ≤ 64) }
-    requires steps { (1 ≤ settings.now.defaults.steps) × (settings.now.defaults.steps ≤ 100000000) }
+    requires steps { (1 ≤ settings.now.defaults.mode.steps) × (settings.now.defaults.mode.steps ≤ 100000000) }
 
     // All was read, and the row of answers to its lines was written, and nothing else.
     ensures session { OnOk result (IsSession (AnswersIn (F.says folder.now) settings.now) (R.said reader.old)

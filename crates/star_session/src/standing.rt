@@ -17,6 +17,7 @@ use crate::changes::are_as;
 use crate::question::Question;
 use crate::request::Request;
 use crate::weight::{Limits, Spent, are_trees_large, ballast_for, texts_kept};
+use star_dialect::{Dialect, Mode};
 use star_label::files::Files;
 use star_memo::compared::{Compared, same_texts};
 use star_memo::lasting::Change;
@@ -120,7 +121,10 @@ impl KeptValues {
     {
         let terms = Terms {
             prelude: None,
-            steps: 1,
+            mode: Mode {
+                steps: 1,
+                dialect: Dialect::Core,
+            },
         };
         KeptValues {
             parses: Parses::new(alloc),
@@ -160,13 +164,13 @@ impl Staying<'_> {
     ) -> Result<(), AllocError>
         requires alike { AreAlike before.now files.now self.old.outcomes.terms.prelude }
         requires former { let terms = self.old.outcomes.terms in
-            AreOutcomes before.now terms.prelude terms.steps self.old.former.items }
+            AreOutcomes before.now terms.prelude terms.mode self.old.former.items }
         requires outcomes { let terms = self.old.outcomes.terms in
-            AreOutcomes files.now terms.prelude terms.steps self.old.outcomes.all.items }
+            AreOutcomes files.now terms.prelude terms.mode self.old.outcomes.all.items }
         requires reads { AreKnown files.now self.old.outcomes.terms.prelude self.old.readings.reads.all.items }
         requires same { AreSame before.now files.now self.old.same.items }
         ensures ends { let terms = self.old.outcomes.terms in OnOk result
-            (AreEndsNow files.now terms.prelude terms.steps self.new.outcomes.all.items) }
+            (AreEndsNow files.now terms.prelude terms.mode self.new.outcomes.all.items) }
         ensures terms { self.new.outcomes.terms ≡ self.old.outcomes.terms }
         ensures parses { self.new.parses ≡ self.old.parses }
         ensures readings { self.new.readings ≡ self.old.readings }
@@ -290,8 +294,8 @@ impl<'t> Standing<'t> {
         ensures standing { IsStanding self.new }
         ensures parses { IfOk result (λ s. AreKept files.now s.parses.all.items) }
         ensures terms { IfOk result (λ s. s.outcomes.terms ≡ terms) }
-        ensures outcomes { IfOk result (λ s. AreOutcomes files.now terms.prelude terms.steps s.outcomes.all.items) }
-        ensures former { IfOk result (λ s. AreOutcomes self.old.files terms.prelude terms.steps s.former.items) }
+        ensures outcomes { IfOk result (λ s. AreOutcomes files.now terms.prelude terms.mode s.outcomes.all.items) }
+        ensures former { IfOk result (λ s. AreOutcomes self.old.files terms.prelude terms.mode s.former.items) }
         ensures alike { IfOk result (λ s.
             0 < length s.former.items → AreAlike self.old.files files.now terms.prelude) }
         ensures prelude { IfOk result (λ s. s.readings.prelude ≡ terms.prelude) }

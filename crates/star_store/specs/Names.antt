@@ -4,6 +4,7 @@ use Rattle.star_store.specs.declared.names.BuiltIn.{BuiltIn}
 use Rattle.star_store.specs.declared.names.BuiltIn.TheVariants as built_in
 use Rattle.star_store.specs.declared.names.Method.{Method}
 use Rattle.star_store.specs.declared.names.Method.TheVariants as method
+use Rattle.star_strings.specs.Table as strings
 
 -- the place among the built-in functions in order of their names
 abbrev pub built_in_number : BuiltIn → ℕ
@@ -83,6 +84,7 @@ method_names method.StringSplit = (codes "string", codes "split")
 method_names method.StringStartswith = (codes "string", codes "startswith")
 method_names method.StringStrip = (codes "string", codes "strip")
 method_names method.StringUpper = (codes "string", codes "upper")
+method_names (method.OfString m) = (codes "string", strings.method_name m)
 
 abbrev pub receiver_type : Method → List ℕ
 receiver_type m = (method_names m).0

@@ -6,6 +6,8 @@
 ghost use Rattle.std.specs.Prelude.{◌≡◌};
 ghost use Rattle.star_store.specs.Names.{built_in_name, built_in_number, method_name, receiver_type};
 
+use star_strings::table::StringMethod;
+
 /// A built-in function of the outermost block.
 #[derive(Clone, Copy, Debug, PartialEq, Eq)]
 pub enum BuiltIn {
@@ -63,6 +65,8 @@ pub enum Method {
     StringStartswith,
     StringStrip,
     StringUpper,
+    /// A method of the table of `star_strings`.
+    OfString(StringMethod),
 }
 
 impl BuiltIn {
@@ -138,6 +142,7 @@ impl Method {
             Method::StringStartswith => ("string", "startswith"),
             Method::StringStrip => ("string", "strip"),
             Method::StringUpper => ("string", "upper"),
+            Method::OfString(method) => ("string", method.name()),
         }
     }
 

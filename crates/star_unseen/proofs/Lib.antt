@@ -19,6 +19,7 @@ mod Rows
 mod Runs
 mod Statements
 mod Subscript
+mod TableMethods
 mod Targets
 mod TextMethods
 mod Values

@@ -1,5 +1,5 @@
 -- Pairs of actions that do the same over two shelves: methods.
-use Rattle.std.proofs.Common.{ℕ, List, nat_eq, true, false}
+use Rattle.std.proofs.Common.{codes, ℕ, List, nat_eq, true, false}
 use Rattle.std.specs.List.{starts_with, ends_with}
 use Rattle.star_store.specs.declared.values.Value.{Value}
 use Rattle.star_store.specs.declared.values.Cell.TheVariants as cell
@@ -18,15 +18,16 @@ use Rattle.star_unseen.proofs.Alike.{Alike, Any, alike_build, alike_content, ali
 use Rattle.star_unseen.proofs.Values.{any_found, alike-want_text}
 use Rattle.star_unseen.proofs.ListMethods.{alike-call_append, alike-call_clear, alike-call_extend, alike-call_index, alike-call_insert, alike-call_pop, alike-call_remove}
 use Rattle.star_unseen.proofs.DictMethods.{alike-call_get, alike-call_items, alike-call_keys, alike-call_values, alike-call_dict_pop, alike-call_popitem, alike-call_setdefault, alike-call_update}
+use Rattle.star_unseen.proofs.TableMethods.{alike-call_in_table, alike-call_wider}
 use Rattle.star_unseen.proofs.TextMethods.{alike-call_edge, alike-call_find, alike-call_join, alike-call_split, alike-call_strip, alike-call_case, alike-call_replace, alike-call_format}
 
 pub alike-attribute : {w : Setting} (k : Veil w) (line : ℕ) (x : Value) (name : List ℕ) → IsVisible k.hides x → Alike k (IsVisible k.hides) (attribute w line x name) (attribute (with_other k.other w) line x name)
 unfolding attribute
-alike-attribute k line x name h =
-    alike_then (alike_content {A = Method} Any x _ _ h (λ c _. alike_found Any code.BadType line (method_of (type_name c) name) (any_found _))) (λ m _. alike_build line 1 (cell.Bound m x) h)
+alike-attribute {w = w} k line x name h =
+    alike_then (alike_content {A = Method} Any x _ _ h (λ c _. alike_found Any code.BadType line (method_of w.dialect (type_name c) name) (any_found _))) (λ m _. alike_build line 1 (cell.Bound m x) h)
 
 pub alike-on_text : {w : Setting} (k : Veil w) (levels line : ℕ) (m : Method) (t : List ℕ) (g : Arguments) → ArgumentsAreVisible k.hides g → Alike k (IsVisible k.hides) (on_text w levels line m t g) (on_text (with_other k.other w) levels line m t g)
-alike-on_text k levels line method.StringEndswith t g h = alike-call_edge k line (ends_with nat_eq) t g h
+alike-on_text k levels line method.StringEndswith t g h = alike-call_wider k line (codes "endswith") t g _ _ h (alike-call_edge k line (ends_with nat_eq) t g h)
 alike-on_text k levels line method.StringFind t g h = alike-call_find k line t g h
 alike-on_text k levels line method.StringFormat t g h = alike-call_format k levels line t g h
 alike-on_text k levels line method.StringJoin t g h = alike-call_join k line t g h
@@ -34,10 +35,11 @@ alike-on_text k levels line method.StringLower t g h = alike-call_case k line lo
 alike-on_text k levels line method.StringLstrip t g h = alike-call_strip k line true false t g h
 alike-on_text k levels line method.StringReplace t g h = alike-call_replace k line t g h
 alike-on_text k levels line method.StringRstrip t g h = alike-call_strip k line false true t g h
-alike-on_text k levels line method.StringSplit t g h = alike-call_split k line t g h
-alike-on_text k levels line method.StringStartswith t g h = alike-call_edge k line (starts_with nat_eq) t g h
+alike-on_text k levels line method.StringSplit t g h = alike-call_wider k line (codes "split") t g _ _ h (alike-call_split k line t g h)
+alike-on_text k levels line method.StringStartswith t g h = alike-call_wider k line (codes "startswith") t g _ _ h (alike-call_edge k line (starts_with nat_eq) t g h)
 alike-on_text k levels line method.StringStrip t g h = alike-call_strip k line true true t g h
 alike-on_text k levels line method.StringUpper t g h = alike-call_case k line upper t g h
+alike-on_text k levels line (method.OfString m) t g h = alike-call_in_table k line m t g h
 alike-on_text k levels line _ t g h = alike_fail Value (IsVisible k.hides) code.BadType line
 
 pub alike-call_method : {w : Setting} (k : Veil w) (levels line : ℕ) (m : Method) (x : Value) (g : Arguments) → IsVisible k.hides x → ArgumentsAreVisible k.hides g → Alike k (IsVisible k.hides) (call_method w levels line m x g) (call_method (with_other k.other w) levels line m x g)

@@ -9,7 +9,9 @@
 //! indexes (`star_store/src/key.rt`). Begin at `equal.rt`.
 #![tactic(auto)]
 
+pub mod draft;
 pub mod equal;
 pub mod order;
+mod quoted;
 pub mod text;
 pub mod truth;

@@ -2,13 +2,13 @@
 //!
 //! The text of a frame, or of a dangling reference, is empty: neither is a value of the language.
 
-ghost use Rattle.std.specs.Prelude.{◌≡◌, ◌≤◌, ◌<◌, ◌++◌, ◌∷◌, ◌-◌, [], OnOk, codes, string_bytes, take, vec_len};
-ghost use Rattle.std.specs.Char.{digit_char};
+ghost use Rattle.std.specs.Prelude.{◌≡◌, ◌≤◌, ◌++◌, ◌∷◌, ◌-◌, [], OnOk, codes, take, vec_len};
 ghost use Rattle.std.specs.Fmt.{signed_decimal};
 ghost use Rattle.star_store.specs.Store.{look};
-ghost use Rattle.star_store.specs.Text.{Tells, after, all_bounds, bool_text, bounds_parts, built_in_parts, function_parts, method_parts, on_path, plain_char, quoted, range_after, same_address, say_dict, say_entries, say_entry, say_inside, say_items, say_list, say_new_dict, say_new_list, say_place, say_read, say_tuple, say_within, separator, shown, shown_char, text, tuple_end};
+ghost use Rattle.star_store.specs.Text.{Tells, after, all_bounds, bool_text, bounds_parts, built_in_parts, function_parts, method_parts, on_path, quoted, range_after, same_address, say_dict, say_entries, say_entry, say_inside, say_items, say_list, say_new_dict, say_new_list, say_place, say_read, say_tuple, say_within, separator, text, tuple_end};
 ghost use Rattle.star_visit.specs.Pages.{Puts};
 
+use crate::draft::Draft;
 use star_store::arena::{Arena, Homes};
 use star_store::budget::Budget;
 use star_store::fault::StoreFault;
@@ -22,20 +22,22 @@ use std::alloc::{AllocError, Global};
 #[derive(Drop)]
 struct Page {
     alloc: Global,
-    out: String,
+    out: Draft,
     path: Vec<Value>,
     steps: u64,
 }
 
 /// The text of a value. It visits the value and all values inside: a visit opens a level (else `Deep`) and then pays a
-/// step (else `Steps`). A list or dictionary inside itself is `[...]` or `{...}`. `Memory` if an allocation fails.
+/// step (else `Steps`). A list or dictionary inside itself is `[...]` or `{...}`. `Memory` if an allocation fails. The
+/// text is not built: it is a draft, in which at most about `room` bytes of long strings are copied.
 pub fn repr(
     alloc: Global,
     arena: &Arena,
     homes: &Homes,
     budget: &mut Budget,
     value: Value,
-) -> Result<Text, StoreFault>
+    room: usize,
+) -> Result<Draft, StoreFault>
     ensures answer { Tells (text (look arena.now homes.now) budget.old.levels [] value [] budget.old.steps)
         result budget.new.steps }
     ensures less { budget.new.steps ≤ budget.old.steps }
@@ -43,14 +45,14 @@ pub fn repr(
 {
     let mut page = Page {
         alloc,
-        out: String::new(alloc),
+        out: Draft::new(alloc, room),
         path: Vec::new(alloc),
         steps: budget.steps,
     };
     let answer = put_text(arena, homes, budget.levels, &mut page, value);
     budget.steps = page.steps;
     answer?;
-    Ok(Text::of(page.out)?)
+    Ok(page.out)
 }
 
 #[cycle(text)]
@@ -116,7 +118,7 @@ fn put_cell<'a>(
     ensures path { OnOk result (page.new.path.items ≡ page.old.path.items) }
 {
     match cell {
-        Some(Cell::Text(t)) => page.say_quoted(t.as_str())?,
+        Some(Cell::Text(t)) => page.say_quoted(t)?,
         Some(Cell::Range(range)) => page.say_range(*range)?,
         Some(Cell::Tuple(items)) => put_tuple(arena, homes, levels, page, items)?,
         Some(Cell::List(items)) => put_list(arena, homes, levels, page, value, items)?,
@@ -372,15 +374,15 @@ fn same_address(x: Value, y: Value) -> bool
 impl Page {
     /// Puts more after the text.
     fn say(&mut self, more: &str) -> Result<(), AllocError>
-        ensures said { OnOk result ((string_bytes self.new.out) ≡ (string_bytes self.old.out) ++ more.now) }
+        ensures said { OnOk result (self.new.out ≡ self.old.out ++ more.now) }
         ensures path { self.new.path.items ≡ self.old.path.items }
         ensures steps { self.new.steps ≡ self.old.steps }
     {
-        self.out.push_str(more)
+        self.out.say(more)
     }
 
     fn say_bool(&mut self, b: bool) -> Result<(), AllocError>
-        ensures said { OnOk result ((string_bytes self.new.out) ≡ (string_bytes self.old.out) ++ bool_text b) }
+        ensures said { OnOk result (self.new.out ≡ self.old.out ++ bool_text b) }
         ensures path { self.new.path.items ≡ self.old.path.items }
         ensures steps { self.new.steps ≡ self.old.steps }
     {
@@ -392,7 +394,7 @@ impl Page {
     }
 
     fn say_int(&mut self, n: i64) -> Result<(), AllocError>
-        ensures said { OnOk result ((string_bytes self.new.out) ≡ (string_bytes self.old.out) ++ signed_decimal n) }
+        ensures said { OnOk result (self.new.out ≡ self.old.out ++ signed_decimal n) }
         ensures path { self.new.path.items ≡ self.old.path.items }
         ensures steps { self.new.steps ≡ self.old.steps }
     {
@@ -401,8 +403,8 @@ impl Page {
     }
 
     fn say_built_in(&mut self, name: &str) -> Result<(), AllocError>
-        ensures said { OnOk result ((string_bytes self.new.out)
-            ≡ after (string_bytes self.old.out) (built_in_parts name.now)) }
+        ensures said { OnOk result (self.new.out
+            ≡ after self.old.out (built_in_parts name.now)) }
         ensures path { self.new.path.items ≡ self.old.path.items }
         ensures steps { self.new.steps ≡ self.old.steps }
     {
@@ -412,19 +414,19 @@ impl Page {
     }
 
     fn say_function(&mut self, name: &Text) -> Result<(), AllocError>
-        ensures said { OnOk result ((string_bytes self.new.out)
-            ≡ after (string_bytes self.old.out) (function_parts name.now)) }
+        ensures said { OnOk result (self.new.out
+            ≡ after self.old.out (function_parts name.now)) }
         ensures path { self.new.path.items ≡ self.old.path.items }
         ensures steps { self.new.steps ≡ self.old.steps }
     {
         self.say("<function ")?;
-        self.say(name.as_str())?;
+        self.out.put(name)?;
         self.say(">")
     }
 
     fn say_method(&mut self, method: Method) -> Result<(), AllocError>
-        ensures said { OnOk result ((string_bytes self.new.out)
-            ≡ after (string_bytes self.old.out) (method_parts method)) }
+        ensures said { OnOk result (self.new.out
+            ≡ after self.old.out (method_parts method)) }
         ensures path { self.new.path.items ≡ self.old.path.items }
         ensures steps { self.new.steps ≡ self.old.steps }
     {
@@ -436,7 +438,7 @@ impl Page {
     }
 
     fn say_range(&mut self, range: Range) -> Result<(), AllocError>
-        ensures said { OnOk result ((string_bytes self.new.out) ≡ range_after (string_bytes self.old.out) range) }
+        ensures said { OnOk result (self.new.out ≡ range_after self.old.out range) }
         ensures path { self.new.path.items ≡ self.old.path.items }
         ensures steps { self.new.steps ≡ self.old.steps }
     {
@@ -446,8 +448,8 @@ impl Page {
     }
 
     fn say_bounds(&mut self, range: Range) -> Result<(), AllocError>
-        ensures said { OnOk result ((string_bytes self.new.out)
-            ≡ after (string_bytes self.old.out) (bounds_parts range)) }
+        ensures said { OnOk result (self.new.out
+            ≡ after self.old.out (bounds_parts range)) }
         ensures path { self.new.path.items ≡ self.old.path.items }
         ensures steps { self.new.steps ≡ self.old.steps }
     {
@@ -464,7 +466,7 @@ impl Page {
 
     fn say_three(&mut self, range: Range) -> Result<(), AllocError>
         // It is long since it has each piece of the text, in order.
-        ensures said { OnOk result ((string_bytes self.new.out) ≡ (string_bytes self.old.out)
+        ensures said { OnOk result (self.new.out ≡ self.old.out
             ++ signed_decimal range.start ++ codes ", " ++ signed_decimal range.stop ++ codes ", "
             ++ signed_decimal range.step) }
         ensures path { self.new.path.items ≡ self.old.path.items }
@@ -478,7 +480,7 @@ impl Page {
     }
 
     fn say_separator(&mut self, i: usize) -> Result<(), AllocError>
-        ensures said { OnOk result ((string_bytes self.new.out) ≡ (string_bytes self.old.out) ++ separator i) }
+        ensures said { OnOk result (self.new.out ≡ self.old.out ++ separator i) }
         ensures path { self.new.path.items ≡ self.old.path.items }
         ensures steps { self.new.steps ≡ self.old.steps }
     {
@@ -486,7 +488,7 @@ impl Page {
     }
 
     fn say_tuple_end(&mut self, items: &Values) -> Result<(), AllocError>
-        ensures said { OnOk result ((string_bytes self.new.out) ≡ (string_bytes self.old.out) ++ tuple_end items.now) }
+        ensures said { OnOk result (self.new.out ≡ self.old.out ++ tuple_end items.now) }
         ensures path { self.new.path.items ≡ self.old.path.items }
         ensures steps { self.new.steps ≡ self.old.steps }
     {
@@ -497,12 +499,12 @@ impl Page {
         }
     }
 
-    fn say_quoted(&mut self, text: &str) -> Result<(), AllocError>
-        ensures said { OnOk result ((string_bytes self.new.out) ≡ (string_bytes self.old.out) ++ quoted text.now) }
+    fn say_quoted(&mut self, text: &Text) -> Result<(), AllocError>
+        ensures said { OnOk result (self.new.out ≡ self.old.out ++ quoted text.now) }
         ensures path { self.new.path.items ≡ self.old.path.items }
         ensures steps { self.new.steps ≡ self.old.steps }
     {
-        put_quoted(&mut self.out, text)
+        self.out.put_quoted(text)
     }
 
     /// Whether the text is now inside this list or dictionary.
@@ -515,7 +517,7 @@ impl Page {
     /// Enters a list or dictionary.
     fn enter(&mut self, value: Value) -> Result<(), AllocError>
         ensures path { OnOk result (self.new.path.items ≡ self.old.path.items ++ value ∷ []) }
-        ensures said { (string_bytes self.new.out) ≡ (string_bytes self.old.out) }
+        ensures said { self.new.out ≡ self.old.out }
         ensures steps { self.new.steps ≡ self.old.steps }
     {
         self.path.push(value)?;
@@ -525,69 +527,9 @@ impl Page {
     /// Leaves the last list or dictionary.
     fn leave(&mut self)
         ensures path { self.new.path.items ≡ take (vec_len self.old.path - 1) self.old.path.items }
-        ensures said { (string_bytes self.new.out) ≡ (string_bytes self.old.out) }
+        ensures said { self.new.out ≡ self.old.out }
         ensures steps { self.new.steps ≡ self.old.steps }
     {
         self.path.truncate(self.path.len().saturating_sub(1));
-    }
-}
-
-/// Puts a string in quotes after a text.
-fn put_quoted(out: &mut String, text: &str) -> Result<(), AllocError>
-    ensures { OnOk result (string_bytes out.new ≡ string_bytes out.old ++ quoted text.now) }
-{
-    out.push('"')?;
-    put_chars(out, text)?;
-    out.push('"')
-}
-
-/// Puts the characters of a string, as its text shows them, after a text.
-fn put_chars(out: &mut String, text: &str) -> Result<(), AllocError>
-    ensures { OnOk result (string_bytes out.new ≡ string_bytes out.old ++ shown text.now) }
-{
-    for c in text.chars() {
-        put_char(out, c)?;
-    }
-    Ok(())
-}
-
-/// Puts a character of a string, as its text shows it, after a text.
-#[tactic(auto, unfolding(star_store::specs::Text::shown_char))]
-fn put_char(out: &mut String, c: char) -> Result<(), AllocError>
-    ensures { OnOk result (string_bytes out.new ≡ string_bytes out.old ++ shown_char c) }
-{
-    match c {
-        '"' => out.push_str("\\\""),
-        '\\' => out.push_str("\\\\"),
-        '\n' => out.push_str("\\n"),
-        '\r' => out.push_str("\\r"),
-        '\t' => out.push_str("\\t"),
-        _ => put_plain(out, c),
-    }
-}
-
-/// Puts a character as itself, or, below 32 and at 127, by `\x` and two lower-case hexadecimal digits.
-fn put_plain(out: &mut String, c: char) -> Result<(), AllocError>
-    ensures { OnOk result (string_bytes out.new ≡ string_bytes out.old ++ plain_char c) }
-{
-    if (c as u32) < 32 || c as u32 == 127 {
-        out.push_str("\\x")?;
-        out.push(hex_digit(c as u32 / 16))?;
-        out.push(hex_digit(c as u32 % 16))
-    } else {
-        out.push(c)
-    }
-}
-
-/// A lower-case hexadecimal digit.
-fn hex_digit(n: u32) -> char
-    requires { n < 16 }
-    ensures value { result ≡ digit_char n }
-    ensures ascii { result < 128 }
-{
-    if n < 10 {
-        (b'0' + n as u8) as char
-    } else {
-        (b'a' + (n - 10) as u8) as char
     }
 }

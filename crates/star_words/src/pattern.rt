@@ -69,6 +69,14 @@ fn file_label(alloc: Global, path: &str, name: &str) -> Result<Option<Label>, Al
     }
 }
 
+/// The folders of other tools that a walk leaves out.
+const LEFT_OUT: [&str; 2] = [".git", "node_modules"];
+
+/// Whether a walk goes into a folder of this name.
+fn is_entered(name: &str) -> bool {
+    is_segment(name) && name != LEFT_OUT[0] && name != LEFT_OUT[1]
+}
+
 /// Follows an entry of the folder at a path.
 fn enter(
     alloc: Global,
@@ -92,7 +100,7 @@ fn enter(
             }
         }
         Kind::Folder => {
-            if is_segment(name) {
+            if is_entered(name) {
                 walk.places.push(inside(alloc, path, name)?)?;
             }
         }
@@ -158,7 +166,8 @@ fn next_place(walk: &mut Walk) -> Option<String>
 }
 
 /// The labels of all files below the folder at `top` whose names a pattern matches. Names that are not segments are
-/// left out, a folder with all that it has, and so are entries that are neither a file nor a folder, such as a link.
+/// left out, a folder with all that it has, and so are entries that are neither a file nor a folder, such as a link, and
+/// folders named `.git` or `node_modules`.
 /// `BadDir` if a folder cannot be listed, `TooMany` if more than 1,000,000 entries are listed.
 pub fn files_below<F: Listing>(
     alloc: Global,

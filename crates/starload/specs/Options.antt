@@ -4,6 +4,8 @@ use Rattle.std.specs.Cmp.Lexicographic.{pointwise}
 use Rattle.std.specs.Option.{option_map_or}
 use Rattle.std.specs.Str.Parse.{IsNumeral, digits_value, without_leading_plus}
 use Rattle.clap.specs.Matches.{first_value, found_of, matched_of, one_text, raw_values}
+use Rattle.star_dialect.specs.declared.Dialect.{Dialect}
+use Rattle.star_dialect.specs.declared.Dialect.TheVariants.{Core, Extended}
 use Rattle.star_report.specs.declared.wanted.Output.{Output}
 use Rattle.star_report.specs.declared.wanted.Output.TheVariants.{Check, Global, Graph, Report}
 use Rattle.star_report.specs.declared.wanted.Wanted.{Wanted}
@@ -40,6 +42,10 @@ Writes word n = IsNumeral 10 (without_leading_plus word) × (digits_value 10 (wi
 abbrev pub IsNumberOf : Option (List ℕ) → ℕ → ℕ → ℕ → ℕ → Type 0
 IsNumberOf None low high other n = n ≡ other
 IsNumberOf (Some word) low high other n = (m : ℕ) → Writes word m → low ≤ m → m ≤ high → n ≡ m
+
+-- the dialect by the word after `--language`: the core language, unless it is the other one
+abbrev pub dialect_of : ArgMatches → Dialect
+dialect_of matches = if is_named matches (codes "language") (codes "extended") then Extended else Core
 
 -- more is wanted of each module by the words after `--with`, and of the roots alone by its flag
 pub record IsWanted (matches : ArgMatches) (wanted : Wanted) : Type 0 where

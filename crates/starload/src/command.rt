@@ -6,12 +6,13 @@ ghost use Rattle.star_report.specs.declared.wanted.Output.TheVariants as Output;
 ghost use Rattle.starload.specs.Options as spec;
 
 use clap::{Arg, ArgAction, ArgMatches, Command, value_parser};
+use star_dialect::{Dialect, Mode};
 use star_mistakes::place::Naming;
 use star_serve::serve::{Form, Options, Output, Wanted};
 use std::alloc::{AllocError, Global};
 
 /// The words of `--version` after the program's name: its version, and the kit that proved it.
-const VERSION: &str = "1.6.14 (rattle-kit-13f logic dac8208d650f15bf)";
+const VERSION: &str = "1.7.0 (rattle-kit-13b logic dac8208d650f15bf)";
 
 /// The end of the help, after the options.
 const EXAMPLE: &str =
@@ -79,6 +80,16 @@ fn steps_arg<'a>(alloc: Global) -> Arg<'a> {
         .default_value("1000000")
 }
 
+/// The words that `--language` may have.
+const LANGUAGES: &[&str] = &["core", "extended"];
+
+fn language_arg<'a>(alloc: Global) -> Arg<'a> {
+    valued_arg(alloc, "language", "LANGUAGE")
+        .help("The language of the files: core, or extended, which has more")
+        .value_parser(LANGUAGES)
+        .default_value("core")
+}
+
 fn repo_arg<'a>(alloc: Global) -> Result<Arg<'a>, AllocError> {
     valued_arg(alloc, "repo", "DIR")
         .help(
@@ -93,6 +104,19 @@ fn match_arg<'a>(alloc: Global) -> Result<Arg<'a>, AllocError> {
             "Which names //app/... stands for, where * is any text and ? one byte [default: *.star]",
         )
         .requires_arg("repo")
+}
+
+/// The words that `--links` may have.
+const LINKS: &[&str] = &["inside", "anywhere", "none"];
+
+fn links_arg<'a>(alloc: Global) -> Result<Arg<'a>, AllocError> {
+    valued_arg(alloc, "links", "WHICH")
+        .help(
+            "Which links are followed below the folder of --repo: inside (those that lead to a file of it), anywhere or none",
+        )
+        .value_parser(LINKS)
+        .default_value("inside")
+        .conflicts_with("dir")
 }
 
 fn code_arg<'a>(alloc: Global) -> Arg<'a> {
@@ -204,11 +228,13 @@ fn with_input<'a>(alloc: Global, command: Command<'a>) -> Result<Command<'a>, Al
     command
         .arg(loaders_arg(alloc))?
         .arg(steps_arg(alloc))?
+        .arg(language_arg(alloc))?
         .arg(prelude_arg(alloc))?
         .arg(trace_arg(alloc))?
         .arg(dir_arg(alloc))?
         .arg(repo_arg(alloc)?)?
-        .arg(match_arg(alloc)?)
+        .arg(match_arg(alloc)?)?
+        .arg(links_arg(alloc)?)
 }
 
 /// Adds the options of the output.
@@ -390,6 +416,17 @@ fn form_of(matches: &ArgMatches<'_>, errors: Errors) -> Option<Form>
     })
 }
 
+/// The dialect that the word after `--language` names: the core language, if there is none.
+fn dialect(matches: &ArgMatches<'_>) -> Dialect
+    ensures { result ≡ spec.dialect_of matches.now }
+{
+    if is_named(matches, "language", "extended") {
+        Dialect::Extended
+    } else {
+        Dialect::Core
+    }
+}
+
 /// The options that the words of the command line give: the roots in their order, and nothing that shows how far the run
 /// is. `Memory` if an allocation failed.
 pub fn options(
@@ -398,11 +435,12 @@ pub fn options(
     errors: Errors,
 ) -> Result<Options, AllocError>
     ensures loaders { IfOk result (λ o. (1 ≤ o.loaders) × (o.loaders ≤ 64)) }
-    ensures steps { IfOk result (λ o. (1 ≤ o.steps) × (o.steps ≤ 100000000)) }
+    ensures steps { IfOk result (λ o. (1 ≤ o.mode.steps) × (o.mode.steps ≤ 100000000)) }
     ensures loaders_given { IfOk result (λ o.
         spec.IsNumberOf (one_text (found_of matches.now) (codes "loaders")) 1 64 4 o.loaders) }
     ensures steps_given { IfOk result (λ o.
-        spec.IsNumberOf (one_text (found_of matches.now) (codes "steps")) 1 100000000 1000000 o.steps) }
+        spec.IsNumberOf (one_text (found_of matches.now) (codes "steps")) 1 100000000 1000000 o.mode.steps) }
+    ensures language { IfOk result (λ o. o.mode.dialect ≡ spec.dialect_of matches.now) }
     ensures roots { IfOk result (λ o. map string_bytes o.roots.items ≡ spec.values_of matches.now (codes "ROOT")) }
     ensures prelude { IfOk result (λ o. option_map string_bytes o.prelude
         ≡ first_value (found_of matches.now) (codes "prelude")) }
@@ -422,7 +460,10 @@ pub fn options(
     let steps = matches.get_one::<u32>("steps").unwrap_or(1_000_000);
     Ok(Options {
         loaders: loaders.clamp(1, 64),
-        steps: steps.clamp(1, 100_000_000),
+        mode: Mode {
+            steps: steps.clamp(1, 100_000_000),
+            dialect: dialect(matches),
+        },
         roots: values_of(alloc, matches, "ROOT")?,
         prelude: value_of(alloc, matches, "prelude")?,
         output: output(alloc, matches)?,

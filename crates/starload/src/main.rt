@@ -18,12 +18,12 @@ mod progress;
 mod repo;
 mod requests;
 
-use clap::ArgMatches;
 use clap::error::ErrorKind;
+use clap::{ArgMatches, Command};
 use command::{Errors, command, is_shown, options};
 use progress::Shown;
 use repo::{RepoAsked, report_repo};
-use requests::answer_requests;
+use requests::{FolderAsked, answer_requests};
 use star_bundle::error::{ServeError, status};
 use star_folder::disk::DiskFolder;
 use star_folder::folder::Folder;
@@ -78,6 +78,28 @@ fn say(rt: &HostRuntime, error: &clap::Error) -> ExitCode {
             let _ = rt.eprint(error);
             ExitCode::from(2)
         }
+    }
+}
+
+/// Whether the one word of the command line is `help`.
+fn is_help(words: &[String]) -> bool {
+    match words {
+        [_, word] => word.as_str() == "help",
+        _ => false,
+    }
+}
+
+/// The words that ask for the help.
+const HELP: &[&str] = &["starload", "--help"];
+
+/// Writes the help to standard output.
+fn help(rt: &HostRuntime, command: Command<'_>) -> ExitCode {
+    let Err(error) = command.try_get_matches_from(HELP) else {
+        return ExitCode::SUCCESS;
+    };
+    match rt.print(&error) {
+        Ok(()) => ExitCode::SUCCESS,
+        Err(_) => ExitCode::from(2),
     }
 }
 
@@ -137,7 +159,7 @@ fn report_bundle<H: Threads + Wait + Sync>(
     options: &Options,
 ) -> Result<bool, ServeError>
     requires loaders { (1 ≤ options.now.loaders) × (options.now.loaders ≤ 64) }
-    requires steps { (1 ≤ options.now.steps) × (options.now.steps ≤ 100000000) }
+    requires steps { (1 ≤ options.now.mode.steps) × (options.now.mode.steps ≤ 100000000) }
 {
     say_what_is_read(rt);
     let kept = options.explain.map(|_| Vec::new(alloc));
@@ -174,7 +196,7 @@ fn report_folder<H: Threads + Wait + Sync>(
     options: &Options,
 ) -> Result<bool, ServeError>
     requires loaders { (1 ≤ options.now.loaders) × (options.now.loaders ≤ 64) }
-    requires steps { (1 ≤ options.now.steps) × (options.now.steps ≤ 100000000) }
+    requires steps { (1 ≤ options.now.mode.steps) × (options.now.mode.steps ≤ 100000000) }
 {
     let mut folder = DiskFolder::new(rt, dir);
     let mut writer = CountedWriter::new(rt.stdout());
@@ -195,7 +217,7 @@ fn report<H: Threads + Wait + Sync>(
     options: Options,
 ) -> ExitCode
     requires loaders { (1 ≤ options.loaders) × (options.loaders ≤ 64) }
-    requires steps { (1 ≤ options.steps) × (options.steps ≤ 100000000) }
+    requires steps { (1 ≤ options.mode.steps) × (options.mode.steps ≤ 100000000) }
 {
     match RepoAsked::of(alloc, matches) {
         Ok(None) => {}
@@ -236,6 +258,9 @@ fn main(rt: HostRuntime) -> ExitCode {
         Ok(command) => command,
         Err(error) => return say(&rt, &error),
     };
+    if is_help(words.as_slice()) {
+        return help(&rt, command);
+    }
     let matches = match command.try_get_matches_from(words.as_slice()) {
         Ok(matches) => matches,
         Err(error) => return say(&rt, &error),
@@ -251,7 +276,8 @@ fn main(rt: HostRuntime) -> ExitCode {
     options.seed = seed_of(&rt);
     if matches.get_flag("requests") {
         let keep = matches.get_one::<u32>("keep").unwrap_or(268_435_456);
-        return answer_requests(&rt, &rt, alloc, options, keep, matches.get_str("repo"));
+        let asked = FolderAsked::of(&matches);
+        return answer_requests(&rt, &rt, alloc, options, keep, asked);
     }
     let shown = Shown::start(&rt, &rt, alloc, is_shown(&matches, errors));
     options.progress = Shown::progress(shown.as_ref());

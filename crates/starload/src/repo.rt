@@ -9,7 +9,7 @@ use star_bundle::error::{ServeError, status};
 use star_hint::missing::{about_file, about_labels};
 use star_label::error::LabelError;
 use star_label::label::Label;
-use star_repo::disk::DiskRepo;
+use star_repo::disk::{DiskRepo, Links, Top};
 use star_repo::error::RepoError;
 use star_repo::wanting::{LoadAt, wanting};
 use star_serve::ends::CountedWriter;
@@ -28,13 +28,27 @@ use std::thread::Threads;
 use std::{env, fs, io, slice};
 use thiserror::Error;
 
-/// The words of `--repo` and `--match`.
+/// The words of `--repo`, `--match` and `--links`.
 #[derive(Debug, Drop)]
 pub(crate) struct RepoAsked {
     /// The folder.
     pub dir: String,
     /// Which names a word that ends in `...` asks for.
     pub pattern: String,
+    /// Which links are followed.
+    pub links: Links,
+}
+
+/// Which links are followed, by the word after `--links`: those that lead to a file of the folder, if there is none.
+pub(crate) fn links_of(matches: &ArgMatches<'_>) -> Links {
+    let word = matches.get_str("links").unwrap_or("");
+    if word == "anywhere" {
+        Links::Anywhere
+    } else if word == "none" {
+        Links::Never
+    } else {
+        Links::Inside
+    }
 }
 
 impl RepoAsked {
@@ -50,7 +64,17 @@ impl RepoAsked {
         Ok(Some(RepoAsked {
             dir: String::from_str(alloc, dir)?,
             pattern: String::from_str(alloc, pattern)?,
+            links: links_of(matches),
         }))
+    }
+
+    /// Where the folder is.
+    fn top<'p>(&'p self, place: &'p Place) -> Top<'p> {
+        Top {
+            path: self.dir.as_str(),
+            real: place.top.as_str(),
+            links: self.links,
+        }
     }
 }
 
@@ -185,7 +209,7 @@ fn push_below(
     let here = here_of(place).unwrap_or("");
     let mut found = BTreeSet::new(alloc);
     if let Some(label) = label_below(alloc, here, front)? {
-        let mut folder = DiskRepo::new(rt, asked.dir.as_str());
+        let mut folder = DiskRepo::new(rt, asked.top(place));
         found = files_below(alloc, &mut folder, label.package(), asked.pattern.as_str())?;
     }
     if found.is_empty() {
@@ -246,9 +270,9 @@ fn with_labels(
     options: Options,
 ) -> Result<Options, Refusal>
     requires loaders { (1 ≤ options.loaders) × (options.loaders ≤ 64) }
-    requires steps { (1 ≤ options.steps) × (options.steps ≤ 100000000) }
+    requires steps { (1 ≤ options.mode.steps) × (options.mode.steps ≤ 100000000) }
     ensures loaders { IfOk result (λ o. (1 ≤ o.loaders) × (o.loaders ≤ 64)) }
-    ensures steps { IfOk result (λ o. (1 ≤ o.steps) × (o.steps ≤ 100000000)) }
+    ensures steps { IfOk result (λ o. (1 ≤ o.mode.steps) × (o.mode.steps ≤ 100000000)) }
 {
     let mut options = options;
     options.roots = roots_named(rt, alloc, asked, place, options.roots.as_slice())?;
@@ -265,7 +289,7 @@ fn load_for<H: Wait>(
     rt: &HostRuntime,
     threads: &H,
     alloc: Global,
-    asked: &RepoAsked,
+    top: Top<'_>,
     options: &Options,
     error: &RepoError,
 ) -> Option<LoadAt> {
@@ -278,7 +302,7 @@ fn load_for<H: Wait>(
     let words = asked_labels(alloc, options.roots.as_slice(), options.prelude.as_ref()).ok()?;
     // The process ends next, and the system takes back all of its memory at once.
     let trees: ManuallyDrop<boxcar::Vec<Tree>> = ManuallyDrop::new(boxcar::Vec::new(alloc).ok()?);
-    let mut folder = DiskRepo::new(rt, asked.dir.as_str());
+    let mut folder = DiskRepo::new(rt, top);
     match wanting(threads, alloc, &mut folder, &*trees, words, label) {
         Ok(load) => load,
         Err(_) => None,
@@ -290,12 +314,12 @@ fn load_for<H: Wait>(
 fn about_for(
     rt: &HostRuntime,
     alloc: Global,
-    asked: &RepoAsked,
+    top: Top<'_>,
     options: &Options,
     error: &RepoError,
 ) -> Option<String> {
     options.explain?;
-    let mut folder = DiskRepo::new(rt, asked.dir.as_str());
+    let mut folder = DiskRepo::new(rt, top);
     match error {
         RepoError::File { label, error } if *error == ServeError::BadFile => {
             about_file(alloc, &mut folder, label).ok()?
@@ -344,13 +368,14 @@ fn reported<H: Threads + Wait + Sync>(
     options: Options,
 ) -> Result<bool, Refusal>
     requires loaders { (1 ≤ options.loaders) × (options.loaders ≤ 64) }
-    requires steps { (1 ≤ options.steps) × (options.steps ≤ 100000000) }
+    requires steps { (1 ≤ options.mode.steps) × (options.mode.steps ≤ 100000000) }
 {
     let Ok(place) = folder_place(rt, alloc, asked.dir.as_str()) else {
         return Err(Refusal::from(ServeError::BadDir));
     };
     let options = with_labels(rt, alloc, asked, &place, options)?;
-    let mut folder = DiskRepo::new(rt, asked.dir.as_str());
+    let top = asked.top(&place);
+    let mut folder = DiskRepo::new(rt, top);
     let mut writer = CountedWriter::new(rt.stdout());
     let mut errors = CountedWriter::new(rt.stderr());
     match serve_repo(
@@ -363,8 +388,8 @@ fn reported<H: Threads + Wait + Sync>(
     ) {
         Ok(all_ok) => Ok(all_ok),
         Err(error) => {
-            let load = load_for(rt, threads, alloc, asked, &options, &error);
-            let about = about_for(rt, alloc, asked, &options, &error);
+            let load = load_for(rt, threads, alloc, top, &options, &error);
+            let about = about_for(rt, alloc, top, &options, &error);
             Err(Refusal::Run { error, load, about })
         }
     }
@@ -379,7 +404,7 @@ pub(crate) fn report_repo<H: Threads + Wait + Sync>(
     options: Options,
 ) -> ExitCode
     requires loaders { (1 ≤ options.loaders) × (options.loaders ≤ 64) }
-    requires steps { (1 ≤ options.steps) × (options.steps ≤ 100000000) }
+    requires steps { (1 ≤ options.mode.steps) × (options.mode.steps ≤ 100000000) }
 {
     let is_told = options.explain.is_some();
     match reported(rt, threads, alloc, asked, options) {

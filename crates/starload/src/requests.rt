@@ -2,17 +2,19 @@
 
 ghost use Rattle.std.specs.Prelude.{◌≤◌};
 
+use crate::repo::links_of;
+use clap::ArgMatches;
 use star_bundle::error::ServeError;
-use star_repo::disk::DiskRepo;
+use star_repo::disk::{DiskRepo, Links, Top};
 use star_serve::ends::{CountedReader, CountedWriter};
 use star_serve::serve::{Options, Output, Wanted};
 use star_session::request::{Defaults, Origin};
 use star_session::session::{Settings, serve_requests};
 use std::alloc::Global;
-use std::fs;
 use std::process::ExitCode;
 use std::sync::Wait;
 use std::thread::Threads;
+use std::{fs, io};
 
 /// The message if the requests end before standard input does.
 fn text_of(error: ServeError) -> &'static str {
@@ -23,22 +25,58 @@ fn text_of(error: ServeError) -> &'static str {
     }
 }
 
+/// The folder of requests that send their files, which no request looks at.
+const NOWHERE: FolderAsked<'static> = FolderAsked {
+    dir: "/",
+    links: Links::Never,
+};
+
 /// Says why no request is answered.
 fn refuse(rt: &HostRuntime, text: &str) -> ExitCode {
     let _ = eprintln!(rt; "starload: {text}");
     ExitCode::from(2)
 }
 
-/// Whether a path leads to a folder.
-fn is_folder(rt: &HostRuntime, path: &str) -> bool {
-    match fs::metadata(rt, path) {
-        Ok(metadata) => metadata.is_dir(),
-        Err(_) => false,
+/// The folder that requests are about: its path, and which links are followed below it.
+#[derive(Clone, Copy)]
+pub(crate) struct FolderAsked<'a> {
+    pub dir: &'a str,
+    pub links: Links,
+}
+
+impl<'a> FolderAsked<'a> {
+    /// The folder that the words of the command line name, if they name one.
+    pub(crate) fn of(matches: &'a ArgMatches<'_>) -> Option<FolderAsked<'a>> {
+        match matches.get_str("repo") {
+            Some(dir) => Some(FolderAsked {
+                dir,
+                links: links_of(matches),
+            }),
+            None => None,
+        }
     }
 }
 
-/// Answers requests until standard input ends: about the files of the folder at `dir`, or else about those that they
-/// send. All of them may take some `keep` bytes of memory more than the largest alone. The loaders are threads of
+/// The real path of a folder.
+fn real_path(rt: &HostRuntime, path: &str) -> io::Result<String> {
+    if !fs::metadata(rt, path)?.is_dir() {
+        return Err(io::Error::from(io::ErrorKind::NotADirectory));
+    }
+    match fs::canonicalize(rt, path)?.to_str() {
+        Some(real) => Ok(String::from_str(rt.alloc(), real)?),
+        None => Err(io::Error::from(io::ErrorKind::InvalidData)),
+    }
+}
+
+/// The real path of the folder that is asked for; empty if there is none.
+fn real_of(rt: &HostRuntime, asked: Option<FolderAsked<'_>>) -> io::Result<String> {
+    match asked {
+        Some(folder) => real_path(rt, folder.dir),
+        None => Ok(String::new(rt.alloc())),
+    }
+}
+
+/// Answers requests until standard input ends: about the files of the folder, or else about those that they send. All of them may take some `keep` bytes of memory more than the largest alone. The loaders are threads of
 /// `threads`.
 pub(crate) fn answer_requests<H: Threads + Wait + Sync>(
     rt: &HostRuntime,
@@ -46,24 +84,27 @@ pub(crate) fn answer_requests<H: Threads + Wait + Sync>(
     alloc: Global,
     options: Options,
     keep: u32,
-    dir: Option<&str>,
+    asked: Option<FolderAsked<'_>>,
 ) -> ExitCode
     requires loaders { (1 ≤ options.loaders) × (options.loaders ≤ 64) }
-    requires steps { (1 ≤ options.steps) × (options.steps ≤ 100000000) }
+    requires steps { (1 ≤ options.mode.steps) × (options.mode.steps ≤ 100000000) }
 {
     let Options {
         loaders,
-        steps,
+        mode,
         seed,
         prelude,
         output,
         ..
     } = options;
-    let (origin, dir) = match dir {
-        Some(dir) if is_folder(rt, dir) => (Origin::Folder, dir),
-        Some(_) => return refuse(rt, ServeError::BadDir.text()),
-        None => (Origin::Sent, "."),
+    let origin = match asked {
+        Some(_) => Origin::Folder,
+        None => Origin::Sent,
     };
+    let Ok(real) = real_of(rt, asked) else {
+        return refuse(rt, ServeError::BadDir.text());
+    };
+    let FolderAsked { dir, links } = asked.unwrap_or(NOWHERE);
     let wanted = match output {
         Output::Report(wanted) => wanted,
         _ => Wanted::NOTHING,
@@ -75,11 +116,16 @@ pub(crate) fn answer_requests<H: Threads + Wait + Sync>(
         defaults: Defaults {
             origin,
             prelude,
-            steps,
+            mode,
             wanted,
         },
     };
-    let folder = DiskRepo::new(rt, dir);
+    let top = Top {
+        path: dir,
+        real: real.as_str(),
+        links,
+    };
+    let folder = DiskRepo::new(rt, top);
     let mut reader = CountedReader::new(rt.stdin());
     let mut writer = CountedWriter::new(rt.stdout());
     match serve_requests(threads, alloc, &folder, &mut reader, &mut writer, &settings) {

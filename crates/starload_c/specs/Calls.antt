@@ -5,6 +5,8 @@ use Rattle.std.specs.Str.{IsUtf8}
 use Rattle.star_bundle.specs.Bundle as bundle
 use Rattle.star_bundle.specs.declared.error.ServeError.{ServeError}
 use Rattle.star_bundle.specs.declared.error.ServeError.TheVariants.{Read, TooBig, BadDir, BadFile, NotText, BadBundle, BadKey, TooMany, TooLong, BadRoot, NoRoot, BadPrelude, NoPrelude, Memory, Write, Unpublished}
+use Rattle.star_dialect.specs.declared.Dialect.TheVariants.{Core}
+use Rattle.star_dialect.specs.declared.Mode.{Mode}
 use Rattle.star_report.specs.declared.wanted.Wanted.{Wanted}
 use Rattle.star_alone.specs.Alone.{IsAnswered, IsRefusedBy, asked_within}
 use Rattle.starload_c.specs.declared.asked.Asked.{Asked}
@@ -20,6 +22,10 @@ prelude_of a = if a.has_prelude then Some a.prelude.now else None
 abbrev pub wanted_of : Asked → Wanted
 wanted_of a =
     record { values = a.with_values; loads = a.with_loads; steps = a.with_steps; only_roots = a.only_roots }
+
+-- the mode in which files run: the core language, with these steps
+abbrev pub mode_of : Asked → Mode
+mode_of a = record { steps = a.steps; dialect = Core }
 
 -- the input that the bundle is for these words, or the refusal of it
 abbrev pub asked_by : Asked → Result bundle.Asked ServeError
@@ -41,7 +47,7 @@ pub record IsReport (a : Asked) (text : List ℕ) (all_ok : Bool) : Type 0 where
   pub fits : Fits a
   pub input : bundle.Asked
   pub is_asked : asked_by a ≡ Ok input
-  pub is_answered : IsAnswered (wanted_of a) input a.steps text all_ok
+  pub is_answered : IsAnswered (wanted_of a) input (mode_of a) text all_ok
 
 -- the number of a refusal
 abbrev pub refusal_of : ServeError → ℕ

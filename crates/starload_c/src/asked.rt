@@ -5,6 +5,7 @@ ghost use Rattle.std.specs.Str.{IsUtf8};
 ghost use Rattle.starload_c.specs.Calls as spec;
 
 use star_bundle::error::ServeError;
+use star_dialect::{Dialect, Mode};
 use star_report::wanted::Wanted;
 use std::alloc::{AllocError, Global};
 
@@ -123,6 +124,16 @@ impl<'a> Asked<'a> {
             loads: self.with_loads,
             steps: self.with_steps,
             only_roots: self.only_roots,
+        }
+    }
+
+    /// The mode in which files run: the core language, with these steps.
+    pub(crate) fn mode(&self) -> Mode
+        ensures { result ≡ spec.mode_of self.now }
+    {
+        Mode {
+            steps: self.steps,
+            dialect: Dialect::Core,
         }
     }
 

@@ -5,6 +5,7 @@ ghost use Rattle.star_memo.specs.Parses.{AreKept};
 ghost use Rattle.star_memo.specs.Readings.{AreReadings};
 
 use star_checks::holds;
+use star_dialect::{Dialect, Mode};
 use star_host::{Reads, Texts, read_parsed};
 use star_label::files::Files;
 use star_label::label::Label;
@@ -166,7 +167,10 @@ fn no_outcome_is_kept_of_no_run(rt: HostRuntime) -> Result<(), Fail> {
     let files = pair(alloc, "y = 2")?;
     let terms = Terms {
         prelude: None,
-        steps: 9,
+        mode: Mode {
+            steps: 9,
+            dialect: Dialect::Core,
+        },
     };
     let none = Outcomes::new(alloc, terms);
     let same = same_texts(alloc, &files, &files)?;

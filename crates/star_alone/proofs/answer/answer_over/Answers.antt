@@ -15,14 +15,14 @@ pub returns-clause-ok : goal.returns-clause-ok
 returns-clause-ok c =
     let asked = c.args.asked.now in
     let wanted = c.args.wanted in
-    let steps = c.args.steps in
+    let mode = c.args.mode in
     let row = c.run_alone.new.reads.all.items in
     let run = c.in-Ok.run' in
     let text = c.in_ok-text.text.items in
     let value = c.as_slice-roots.ensures.value in
     let same = c.in_ok-text.ensures.same in
-    answered_in wanted asked.files asked.roots.items asked.prelude steps row run text c.all_good-all_ok.result c.in-Ok.ensures.begun
-    (subst (λ roots. AreModulesOf asked.files roots asked.prelude steps run.kept) value c.in-Ok.ensures.modules)
+    answered_in wanted asked.files asked.roots.items asked.prelude mode row run text c.all_good-all_ok.result c.in-Ok.ensures.begun
+    (subst (λ roots. AreModulesOf asked.files roots asked.prelude mode run.kept) value c.in-Ok.ensures.modules)
     (subst (λ roots. IsReadOf asked.files roots asked.prelude row) value c.in-Ok.ensures.read)
     (subst (λ roots. ReportsRun wanted asked.files row roots run text) value c.in_ok-text.ensures.text)
     (λ e. subst (λ r. AllGood r.kept) same (c.all_good-all_ok.ensures.good e)) (λ e all. c.all_good-all_ok.ensures.bad e (subst (λ r. AllGood r.kept) (sym same) all))

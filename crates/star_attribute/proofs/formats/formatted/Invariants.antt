@@ -1,4 +1,4 @@
-use Rattle.std.proofs.Common.{◌≡◌, [], length, string_bytes}
+use Rattle.std.proofs.Common.{◌≡◌, [], length}
 use denote.Shadow.{shadow}
 use denote.Text.{Utf8}
 use Rattle.star_meaning.specs.Format.{Outside}
@@ -8,7 +8,7 @@ use Rattle.star_attribute.proofs.formats.formatted.Given as goal
 
 abbrev pub invariant-loop-before : goal.invariant-loop-before
 invariant-loop-before l = record {
-  rest : formatting l.call l.rest Outside l.numbering (string_bytes l.out) l.machine ≡ formatting l.call l.format Outside Unused [] l.fn.machine;
+  rest : formatting l.call l.rest Outside l.numbering l.out l.machine ≡ formatting l.call l.format Outside Unused [] l.fn.machine;
   text : shadow (Utf8 l.rest);
 }
 

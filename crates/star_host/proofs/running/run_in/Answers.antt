@@ -15,12 +15,12 @@ read_parsed-requires-clause-known g c =
 pub returns-clause-modules : goal.returns-clause-modules
 returns-clause-modules g c =
     let plan = plan_in c.new-common.result in
-    rw c.new-3.ensures (plan, subst (λ fs. IsPlanOf fs plan) c.new-common.ensures.files c.new-common.ensures.world.planned, c.new-common.ensures.roots, c.new-common.ensures.prelude, c.new-common.ensures.steps, c.in_ok-kept.ensures.modules)
+    rw c.new-3.ensures (plan, subst (λ fs. IsPlanOf fs plan) c.new-common.ensures.files c.new-common.ensures.world.planned, c.new-common.ensures.roots, c.new-common.ensures.prelude, c.new-common.ensures.mode, c.in_ok-kept.ensures.modules)
 
 pub returns-clause-refused : goal.returns-clause-refused
 returns-clause-refused g c =
     let plan = plan_in c.new-common.result in
-    rw c.new-3.ensures (plan, subst (λ fs. IsPlanOf fs plan) c.new-common.ensures.files c.new-common.ensures.world.planned, c.new-common.ensures.roots, c.new-common.ensures.prelude, c.new-common.ensures.steps, c.in_ok-kept.ensures.refused)
+    rw c.new-3.ensures (plan, subst (λ fs. IsPlanOf fs plan) c.new-common.ensures.files c.new-common.ensures.world.planned, c.new-common.ensures.roots, c.new-common.ensures.prelude, c.new-common.ensures.mode, c.in_ok-kept.ensures.refused)
 
 pub returns-clause-counts : goal.returns-clause-counts
 returns-clause-counts g c = rw c.new-3.ensures (counts_of_more _ _ _ _ c.enough.ensures.given c.requires.loaders.1

@@ -1,4 +1,4 @@
-use Rattle.std.proofs.Common.{◌≡◌, [], length, false, string_bytes}
+use Rattle.std.proofs.Common.{◌≡◌, [], length, false}
 use denote.Shadow.{shadow}
 use denote.Text.{Utf8}
 use Rattle.star_meaning.specs.Percent.{filled}
@@ -6,7 +6,7 @@ use Rattle.star_operators.proofs.percent.filled.Given as goal
 
 abbrev pub invariant-loop-before : goal.invariant-loop-before
 invariant-loop-before l = record {
-  rest : filled l.setting l.levels l.line false l.rest l.left (string_bytes l.out) l.machine ≡ filled l.setting l.levels l.line false l.format l.values [] l.fn.machine;
+  rest : filled l.setting l.levels l.line false l.rest l.left l.out l.machine ≡ filled l.setting l.levels l.line false l.format l.values [] l.fn.machine;
   text : shadow (Utf8 l.rest);
 }
 

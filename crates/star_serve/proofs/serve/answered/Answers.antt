@@ -19,23 +19,23 @@ written_of-requires-clause-loads g c =
 pub returns-clause-text : goal.returns-clause-text
 returns-clause-text g c =
     let asked = c.args.job.now.asked.now in
-    in_plan_of_same asked.files asked.roots.items c.as_slice-roots.result.now asked.prelude c.args.options.now.steps c.run_in-outcome.new.reads.all.items c.in-Ok.run' _ c.as_slice-roots.ensures.value c.in-Ok.ensures.begun c.in-Ok.ensures.modules c.in-Ok.ensures.read c.in_ok-written.ensures.text
+    in_plan_of_same asked.files asked.roots.items c.as_slice-roots.result.now asked.prelude c.args.options.now.mode c.run_in-outcome.new.reads.all.items c.in-Ok.run' _ c.as_slice-roots.ensures.value c.in-Ok.ensures.begun c.in-Ok.ensures.modules c.in-Ok.ensures.read c.in_ok-written.ensures.text
 
 pub returns-clause-said : goal.returns-clause-said
 returns-clause-said g c =
     let asked = c.args.job.now.asked.now in
-    in_plan_of_same asked.files asked.roots.items c.as_slice-roots.result.now asked.prelude c.args.options.now.steps c.run_in-outcome.new.reads.all.items c.in-Ok.run' _ c.as_slice-roots.ensures.value c.in-Ok.ensures.begun c.in-Ok.ensures.modules c.in-Ok.ensures.read c.in_ok-written.ensures.said
+    in_plan_of_same asked.files asked.roots.items c.as_slice-roots.result.now asked.prelude c.args.options.now.mode c.run_in-outcome.new.reads.all.items c.in-Ok.run' _ c.as_slice-roots.ensures.value c.in-Ok.ensures.begun c.in-Ok.ensures.modules c.in-Ok.ensures.read c.in_ok-written.ensures.said
 
 pub returns-clause-refused : goal.returns-clause-refused
 returns-clause-refused g c =
     let asked = c.args.job.now.asked.now in
-    subst (λ r. AreRefusalsOf asked.files asked.roots.items asked.prelude c.args.options.now.steps r.refused) (sym c.in_ok-written.ensures.same)
-    (subst (λ roots. AreRefusalsOf asked.files roots asked.prelude c.args.options.now.steps c.in-Ok.run'.refused) c.as_slice-roots.ensures.value c.in-Ok.ensures.refused)
+    subst (λ r. AreRefusalsOf asked.files asked.roots.items asked.prelude c.args.options.now.mode r.refused) (sym c.in_ok-written.ensures.same)
+    (subst (λ roots. AreRefusalsOf asked.files roots asked.prelude c.args.options.now.mode c.in-Ok.run'.refused) c.as_slice-roots.ensures.value c.in-Ok.ensures.refused)
 
 pub run_in-outcome-requires-clause-ends : goal.run_in-outcome-requires-clause-ends
 run_in-outcome-requires-clause-ends g c =
     let asked = c.args.job.now.asked.now in
-    λ lives within. subst (λ roots. AreGoodEndsOf asked.files roots asked.prelude c.args.options.now.steps c.args.ends.now) (sym c.as_slice-roots.ensures.value) c.requires.ends
+    λ lives within. subst (λ roots. AreGoodEndsOf asked.files roots asked.prelude c.args.options.now.mode c.args.ends.now) (sym c.as_slice-roots.ensures.value) c.requires.ends
 
 pub returns-clause-cells : goal.returns-clause-cells
 returns-clause-cells g c = ap (λ r. length r.cells) c.in_ok-written.ensures.same ∙ c.in-Ok.ensures.files
@@ -43,8 +43,8 @@ returns-clause-cells g c = ap (λ r. length r.cells) c.in_ok-written.ensures.sam
 pub returns-clause-modules : goal.returns-clause-modules
 returns-clause-modules g c =
     let asked = c.args.job.now.asked.now in
-    subst (λ r. AreModulesOf asked.files asked.roots.items asked.prelude c.args.options.now.steps r.kept) (sym c.in_ok-written.ensures.same)
-    (subst (λ roots. AreModulesOf asked.files roots asked.prelude c.args.options.now.steps c.in-Ok.run'.kept) c.as_slice-roots.ensures.value c.in-Ok.ensures.modules)
+    subst (λ r. AreModulesOf asked.files asked.roots.items asked.prelude c.args.options.now.mode r.kept) (sym c.in_ok-written.ensures.same)
+    (subst (λ roots. AreModulesOf asked.files roots asked.prelude c.args.options.now.mode c.in-Ok.run'.kept) c.as_slice-roots.ensures.value c.in-Ok.ensures.modules)
 
 pub returns-clause-read : goal.returns-clause-read
 returns-clause-read g c =

@@ -21,12 +21,12 @@ check-requires-clause-loads g c =
     lead_within asked.files c.as_slice-roots.result.now asked.prelude c.in_ok-read.read.all.items c.in_ok-read.ensures.read
 
 pub returns-clause-text : goal.returns-clause-text
-returns-clause-text g c = λ steps.
+returns-clause-text g c = λ mode.
     let asked = c.args.job.now.asked.now in
     let row = c.in_ok-read.read.all.items in
     let value = c.as_slice-roots.ensures.value in
     let read : IsReadOf asked.files asked.roots.items asked.prelude row = subst (λ rs. IsReadOf asked.files rs asked.prelude row) value c.in_ok-read.ensures.read in
-    checked_in asked.files asked.roots.items asked.prelude row c.args.only_roots c.in_ok-it.it.text.items c.in_ok-it.it.all_ok read (λ plan planned is of. c.in_ok-it.ensures plan planned is (of ∙ sym value)) steps
+    checked_in asked.files asked.roots.items asked.prelude row c.args.only_roots c.in_ok-it.it.text.items c.in_ok-it.it.all_ok read (λ plan planned is of. c.in_ok-it.ensures plan planned is (of ∙ sym value)) mode
 
 pub returns-clause-read : goal.returns-clause-read
 returns-clause-read g c =

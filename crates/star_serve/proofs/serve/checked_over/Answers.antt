@@ -9,9 +9,9 @@ use Rattle.star_serve.proofs.serve.checked_over.Goals as goal
 pub returns-clause-ok : goal.returns-clause-ok
 returns-clause-ok g c =
     let asked = asked_view c.args.job.now.asked.now in
-    let steps = c.args.options.now.steps in
+    let mode = c.args.options.now.mode in
     let it = c.in-Ok.it in
-    (c.as_slice.result.now, went_well c.write_some.result (sym c.is_err.ensures.value ∙ c.if-is_err.false) c.write_some.ensures.takes, subst (λ text. IsOutputFor (Check c.args.only_roots) asked steps text it.all_ok) (sym c.as_slice.ensures.value) (c.in-Ok.ensures.text steps))
+    (c.as_slice.result.now, went_well c.write_some.result (sym c.is_err.ensures.value ∙ c.if-is_err.false) c.write_some.ensures.takes, subst (λ text. IsOutputFor (Check c.args.only_roots) asked mode text it.all_ok) (sym c.as_slice.ensures.value) (c.in-Ok.ensures.text mode))
 
 pub checked-requires-clause-reads : goal.checked-requires-clause-reads
 checked-requires-clause-reads g c =

@@ -10,7 +10,7 @@ returns g c =
     record {
       kinds = tt;
       text = c.in-Ok.ensures.text;
-      ends = ends_in asked.files asked.roots.items asked.prelude c.args.options.now.steps _ _ c.in-Ok.ensures.modules c.in_ok-ends.ensures.plans;
+      ends = ends_in asked.files asked.roots.items asked.prelude c.args.options.now.mode _ _ c.in-Ok.ensures.modules c.in_ok-ends.ensures.plans;
       read = c.in-Ok.ensures.read;
       others = c.in-Ok.ensures.others;
     }

@@ -21,7 +21,7 @@ returns-in-Err-asked_in-clause-refused g c =
 pub keep_lasting-requires-clause-former : goal.keep_lasting-requires-clause-former
 keep_lasting-requires-clause-former g c =
     let asked = c.in-Ok-asked_in.asked in
-    λ lives within. subst (λ fs. AreOutcomes fs asked.prelude c.args.request.question.steps c.in_ok-staying.staying.former.items) (sym c.staying.ensures.files) c.in_ok-staying.ensures.former
+    λ lives within. subst (λ fs. AreOutcomes fs asked.prelude c.args.request.question.mode c.in_ok-staying.staying.former.items) (sym c.staying.ensures.files) c.in_ok-staying.ensures.former
 
 pub keep_lasting-requires-clause-alike : goal.keep_lasting-requires-clause-alike
 keep_lasting-requires-clause-alike g c =
@@ -30,12 +30,12 @@ keep_lasting-requires-clause-alike g c =
 
 pub report_of-requires-clause-ends : goal.report_of-requires-clause-ends
 report_of-requires-clause-ends g c =
-    λ lives within. subst (λ (a : AskedFor). AreEndsNow a.files a.prelude c.args.request.question.steps c.keep_lasting.new.staying.outcomes.all.items) (sym c.keep_lasting.ensures.asked) c.in_ok-keep_lasting.ensures.ends
+    λ lives within. subst (λ (a : AskedFor). AreEndsNow a.files a.prelude c.args.request.question.mode c.keep_lasting.new.staying.outcomes.all.items) (sym c.keep_lasting.ensures.asked) c.in_ok-keep_lasting.ensures.ends
 
 pub returns-clause-outcomes : goal.returns-clause-outcomes
 returns-clause-outcomes g c =
     let ends = c.in_ok-reported.reported.ends.items in
-    subst (λ p. AreOutcomes c.keep_lasting.new.asked.files p c.args.request.question.steps ends) (ap (λ (a : AskedFor). a.prelude) c.keep_lasting.ensures.asked) c.in_ok-reported.ensures.ends
+    subst (λ p. AreOutcomes c.keep_lasting.new.asked.files p c.args.request.question.mode ends) (ap (λ (a : AskedFor). a.prelude) c.keep_lasting.ensures.asked) c.in_ok-reported.ensures.ends
 
 pub returns-clause-after : goal.returns-clause-after
 returns-clause-after g c = ap (λ (a : AskedFor). a.files) c.keep_lasting.ensures.asked ∙ asked_files _ _ c.in-Ok.files (asked_view c.in-Ok-asked_in.asked) c.in-Ok-asked_in.ensures.asked ∙ c.in-Ok.ensures.files
@@ -47,7 +47,7 @@ returns-clause-report g c =
     let asked = c.in-Ok-asked_in.asked in
     let question = c.args.request.question in
     let text = c.in_ok-reported.reported.text.items in
-    let report = subst (λ (a : AskedFor). IsReportText question.wanted (asked_view a) question.steps text) c.keep_lasting.ensures.asked c.in_ok-reported.ensures.report in
+    let report = subst (λ (a : AskedFor). IsReportText question.wanted (asked_view a) question.mode text) c.keep_lasting.ensures.asked c.in_ok-reported.ensures.report in
     subst (λ (a : AskedFor). IsReportOf a.files (question_of question) text) (sym c.keep_lasting.ensures.asked)
     (of_asked c.args.request asked.files text (report_of_asked c.args.standing.now.files c.in-Ok.files (asked_by c.args.request) _ _ (asked_view asked) text report.0
     c.in-Ok.ensures.limits c.in-Ok.ensures.files roots prelude c.in-Ok-asked_in.ensures.asked report.1))

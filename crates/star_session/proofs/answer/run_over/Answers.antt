@@ -14,14 +14,14 @@ written_over-requires-clause-reads g c =
 pub written_over-requires-clause-ends : goal.written_over-requires-clause-ends
 written_over-requires-clause-ends g c =
     let asked = c.args.asked.now in
-    let steps = c.args.options.now.steps in
-    let ends = subst (AreEndsNow asked.files asked.prelude steps) (sym c.as_slice-ends.ensures.value) c.requires.ends in
-    λ lives within. ends_of_now asked.files asked.roots.items asked.prelude steps c.as_slice-ends.result.now ends
+    let mode = c.args.options.now.mode in
+    let ends = subst (AreEndsNow asked.files asked.prelude mode) (sym c.as_slice-ends.ensures.value) c.requires.ends in
+    λ lives within. ends_of_now asked.files asked.roots.items asked.prelude mode c.as_slice-ends.result.now ends
 
 pub returns-clause-ends : goal.returns-clause-ends
 returns-clause-ends g c =
     let asked = c.args.asked.now in
-    left_in asked.files asked.roots.items asked.prelude c.args.options.now.steps c.in_ok-finished.finished.ends.items c.len.ensures.ordered c.in_ok-finished.ensures.ends
+    left_in asked.files asked.roots.items asked.prelude c.args.options.now.mode c.in_ok-finished.finished.ends.items c.len.ensures.ordered c.in_ok-finished.ensures.ends
 
 pub returns-clause-readings : goal.returns-clause-readings
 returns-clause-readings g c =

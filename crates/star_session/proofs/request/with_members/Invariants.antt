@@ -9,5 +9,5 @@ decreases-loop-name l = length l.members.entries
 abbrev pub invariant-loop-name : goal.invariant-loop-name
 invariant-loop-name l = record {
   asked : with_members l.fn.origin (asked_by l.fn.request) (members_view l.fn.members.entries) ≡ with_members l.fn.origin (asked_by l.request) (members_view l.members.entries);
-  range : (1 ≤ l.request.question.steps) × (l.request.question.steps ≤ 100000000);
+  range : (1 ≤ l.request.question.mode.steps) × (l.request.question.mode.steps ≤ 100000000);
 }

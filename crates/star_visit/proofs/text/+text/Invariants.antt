@@ -1,6 +1,5 @@
 use Rattle.std.proofs.Common.{◌≡◌, ◌≤◌, ◌+◌, ◌*◌, ◌-◌}
 use Rattle.star_store.specs.Text.{all_said, say_entry, say_place, text}
-use Rattle.std.specs.Prelude.{string_bytes}
 use Rattle.star_store.specs.Store.{look}
 use Rattle.star_visit.proofs.text.+text.Given as goal
 
@@ -49,9 +48,9 @@ decreases-put_new_dict l = 12 * l.levels + 6
 abbrev pub invariant-put_items-loop-i : goal.invariant-put_items-loop-i
 invariant-put_items-loop-i l =
     let f = say_place (text (look l.arena l.homes) l.levels l.fn.page.path.items) l.items in
-    record { rest : all_said f (l.count - l.i) l.i (string_bytes l.page.out) l.page.steps ≡ all_said f l.count 0 (string_bytes l.fn.page.out) l.fn.page.steps; less : l.page.steps ≤ l.fn.page.steps; path : l.page.path.items ≡ l.fn.page.path.items }
+    record { rest : all_said f (l.count - l.i) l.i l.page.out l.page.steps ≡ all_said f l.count 0 l.fn.page.out l.fn.page.steps; less : l.page.steps ≤ l.fn.page.steps; path : l.page.path.items ≡ l.fn.page.path.items }
 
 abbrev pub invariant-put_entries-loop-i : goal.invariant-put_entries-loop-i
 invariant-put_entries-loop-i l =
     let f = say_entry (text (look l.arena l.homes) l.levels l.fn.page.path.items) l.entries in
-    record { rest : all_said f (l.count - l.i) l.i (string_bytes l.page.out) l.page.steps ≡ all_said f l.count 0 (string_bytes l.fn.page.out) l.fn.page.steps; less : l.page.steps ≤ l.fn.page.steps; path : l.page.path.items ≡ l.fn.page.path.items }
+    record { rest : all_said f (l.count - l.i) l.i l.page.out l.page.steps ≡ all_said f l.count 0 l.fn.page.out l.fn.page.steps; less : l.page.steps ≤ l.fn.page.steps; path : l.page.path.items ≡ l.fn.page.path.items }

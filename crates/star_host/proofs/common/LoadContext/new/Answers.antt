@@ -13,7 +13,7 @@ returns-clause-world c =
     let same : row ≡ c.args.reads.now.all.items = c.as_slice.ensures.value in
     let o = c.args.options in
     let is : IsReadOf c.args.files.now o.roots.now o.prelude row = subst (IsReadOf c.args.files.now o.roots.now o.prelude) (sym same) c.requires.read in
-    let plan : Plan = record { roots = o.roots.now; prelude = o.prelude; steps = o.steps; reads = readings row } in
+    let plan : Plan = record { roots = o.roots.now; prelude = o.prelude; mode = o.mode; reads = readings row } in
     let planned = planned_so c.args.files.now is.0 row plan refl is.1 is.2 in
     record {
       files_are = refl;
@@ -23,7 +23,7 @@ returns-clause-world c =
       cells_fit = c.requires.cells;
       prelude_is = refl;
       prelude_fits = c.requires.prelude;
-      steps_are = refl;
+      mode_is = refl;
       steps_fit = c.requires.steps;
       planned = planned;
       placed = subst (ArePlaced c.args.files.now plan) (sym (subst (λ r. c.args.programs.now ≡ table_of r) (sym same) c.requires.programs)) (placed_so c.args.files.now o.roots.now is.0 row plan refl is.1 is.2);

@@ -25,4 +25,4 @@ loop-n-preserved c =
 
 pub returns-clause-all : goal.returns-clause-all
 returns-clause-all c = λ before files alike are now last first.
-    all_now c.kept_results_stay.ensures before files c.args.self.now.terms.prelude c.args.self.now.terms.steps c.args.marks.now c.args.former.now.items c.args.self.now.all.items c.loop-n.self.all.items c.loop-n.invariant.all alike are now last first
+    all_now c.kept_results_stay.ensures before files c.args.self.now.terms.prelude c.args.self.now.terms.mode c.args.marks.now c.args.former.now.items c.args.self.now.all.items c.loop-n.self.all.items c.loop-n.invariant.all alike are now last first

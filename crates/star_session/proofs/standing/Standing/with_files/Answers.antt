@@ -7,7 +7,7 @@ pub returns-clause-standing : goal.returns-clause-standing
 returns-clause-standing g c = record {
   kept = record {
     parses = c.in_ok-staying.ensures.parses;
-    outcomes = subst (λ (t : Terms). AreOutcomes c.args.files t.prelude t.steps c.in_ok-staying.staying.outcomes.all.items) (sym c.in_ok-staying.ensures.terms) c.in_ok-staying.ensures.outcomes;
+    outcomes = subst (λ (t : Terms). AreOutcomes c.args.files t.prelude t.mode c.in_ok-staying.staying.outcomes.all.items) (sym c.in_ok-staying.ensures.terms) c.in_ok-staying.ensures.outcomes;
     last = tt;
   };
   readings = c.in_ok-staying.ensures.readings;

@@ -1,0 +1,5 @@
+use Rattle.star_alike.proofs.law.sessions_reply.Goals as goal
+use Rattle.star_alike.proofs.Sessions as lemmas
+
+pub returns : goal.returns
+returns c = lemmas.sessions_reply

@@ -1,0 +1,2 @@
+-- The dialects of the language, by their words.
+pub mod Words

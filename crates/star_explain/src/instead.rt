@@ -1,0 +1,66 @@
+//! What to write in place of a method or an argument that other dialects have.
+
+use star_found::about::Type;
+
+/// The help for methods that are missing, by the type of their value.
+const METHODS: &[(Type, &'static str, &'static str)] = &[
+    (Type::Text, "encode", "a string is UTF-8 already"),
+    (Type::Dict, "has_key", "write `key in d`"),
+    (Type::Dict, "iteritems", "write `d.items()`"),
+    (Type::Dict, "copy", "write `dict(d)`"),
+    (
+        Type::List,
+        "sort",
+        "write `sorted(xs)`, which is a new list",
+    ),
+    (
+        Type::List,
+        "reverse",
+        "write `reversed(xs)`, which is a new list",
+    ),
+    (Type::List, "copy", "write `list(xs)`"),
+    (
+        Type::List,
+        "count",
+        "write `len([x for x in xs if x == y])`",
+    ),
+    (Type::List, "push", "write `xs.append(x)`"),
+    (Type::List, "add", "write `xs.append(x)`"),
+];
+
+/// The help for a wrong number of arguments of a built-in function or a method.
+const ARGUMENTS: &[(&'static str, &'static str)] = &[
+    (
+        "sorted",
+        "it has no `key`: put the items into a dict by their keys, and sort those",
+    ),
+    ("max", "it has no `key`"),
+    ("min", "it has no `key`"),
+];
+
+/// What to write in place of a method that a type does not have.
+pub(crate) fn of_method(kind: Type, name: &str) -> Option<&'static str> {
+    for (owner, method, help) in METHODS {
+        if *owner == kind && *method == name {
+            return Some(*help);
+        }
+    }
+    None
+}
+
+/// The help for `split` without a separator.
+const SPLIT: &str =
+    "the core language needs the string to split by, as in `s.split(\" \")`; `--language extended` does not";
+
+/// What to write if a built-in function or a method does not take so many arguments, or one of these names.
+pub(crate) fn of_arguments(name: &str, given: usize) -> Option<&'static str> {
+    if name == "split" && given == 0 {
+        return Some(SPLIT);
+    }
+    for (function, help) in ARGUMENTS {
+        if *function == name {
+            return Some(*help);
+        }
+    }
+    None
+}

@@ -1,0 +1,5 @@
+use Rattle.star_join.proofs.law.joins_count.Goals as goal
+use Rattle.star_join.proofs.Joins as lemmas
+
+pub returns : goal.returns
+returns c = lemmas.joins_count

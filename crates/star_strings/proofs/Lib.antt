@@ -1,0 +1,10 @@
+pub mod Affixes
+pub mod Cutting
+pub mod TableRows
+pub mod OneByOne
+pub mod Titles
+pub mod LastWindows
+pub mod Windows
+pub mod CuttingBack
+pub mod Runs
+pub mod Endings

@@ -1,0 +1,7 @@
+-- Strings as lists of bytes, and the table of the methods that are functions of them. Begin at Table.
+pub mod Texts
+pub mod Places
+pub mod Words
+pub mod Strings
+pub mod Table
+pub mod Cuts
