@@ -1,0 +1,2 @@
+# one global, in a shell
+starload --get ports --dir . //app:main.star
