@@ -8,6 +8,7 @@ use crate::meeting::Meeting;
 use crate::runs::{BY_TWO, all_roots, files_of};
 use star_cache::{LoadCache, Seat};
 use star_checks::holds;
+use star_dialect::Dialect;
 use star_host::{
     LoadContext, LoadError, RunId, RunOptions, Shelf, Told, Trace, Trees, load, programs,
     read_files,
@@ -112,7 +113,7 @@ fn read_while_held<R: Threads + Wait + Sync>(
 {
     let trees = Trees::new(alloc)?;
     let shelf = Shelf::new(alloc, files.len())?;
-    let reads = read_files(rt, alloc, files, &trees, roots, None, 2)?;
+    let reads = read_files(rt, alloc, files, &trees, roots, None, Dialect::Core, 2)?;
     let programs = programs(alloc, &reads)?;
     let options = RunOptions { roots, ..BY_TWO };
     let common = LoadContext::new(alloc, files, &reads, &programs, &shelf, &[], options);

@@ -7,6 +7,7 @@ ghost use Rattle.star_outcome.specs.Fits.{IsAsked};
 use crate::runs::{BY_TWO, files_of, three};
 use star_cache::{Book, LoadCache};
 use star_checks::holds;
+use star_dialect::Dialect;
 use star_host::gate::Open;
 use star_host::{
     LoadContext, LoadError, RunId, RunOptions, Shelf, Told, Trace, Trees, load, programs,
@@ -85,7 +86,7 @@ fn load_label<R: Threads + Wait + Sync>(
     let roots = [root];
     let trees = Trees::new(alloc)?;
     let shelf = Shelf::new(alloc, files.len())?;
-    let reads = read_files(rt, alloc, files, &trees, &roots, None, 2)?;
+    let reads = read_files(rt, alloc, files, &trees, &roots, None, Dialect::Core, 2)?;
     let programs = programs(alloc, &reads)?;
     let options = RunOptions {
         roots: &roots,

@@ -120,7 +120,7 @@ fn many_parameters_have_a_layout_of(
     tree: &Tree,
 ) -> Result<(), Fail> {
     assert!(rt; 0 < labels.len());
-    let program = program_of(alloc, labels, 0, tree, None)?;
+    let program = program_of(alloc, labels, 0, tree, None, Dialect::Core)?;
     many_parameters_have_a_layout_with(rt, alloc, &program)
 }
 

@@ -1,19 +1,22 @@
 //! Names the values that a fault at an expression is about, by the form of the expression.
 
 use crate::look::{Look, found_at};
-use crate::parts::last_token;
-use crate::search::{Culprit, LEVELS};
-use star_found::about::{About, Found};
-use star_machine::content::Kind;
+use crate::search::{LEVELS, Visit};
+use star_found::about::{About, Found, Place, Turn, Type};
+use star_machine::content::{Content, Kind};
 use star_meaning::fault::FaultCode;
 use star_meaning::site::Site;
-use star_store::values::Value;
+use star_scope::spot::Spot;
+use star_store::values::{Cell, Frame, Value};
 use star_text::Text;
 use star_tree::tree::{BinaryOperator, Comparator, Expression, Name, UnaryOperator};
 use std::alloc::AllocError;
 
-/// At most this many keys of a dictionary are collected, to be compared with a missing one.
+/// At most this many keys of a dictionary, or names of a struct, are collected, to be compared with a missing one.
 const MOST_KEYS: usize = 200;
+
+/// At most this many keys of a display are compared with one another.
+const MOST_ENTRIES: usize = 1_000;
 
 fn sign_of(operator: BinaryOperator) -> &'static str {
     match operator {
@@ -68,17 +71,28 @@ fn sign_before(operator: UnaryOperator) -> &'static str {
     }
 }
 
-/// A token late in the first part of an expression; the expression's sign comes after it. It is `token` if none is
-/// known.
-fn after(token: usize, first: &Expression) -> usize {
-    last_token(first).unwrap_or(token)
-}
-
 impl<'w, 'a, 't> Look<'w, 'a, 't> {
+    /// Whether the fault may have come from writing to a value: a frozen value is of another file, one that is iterated
+    /// is of the file that ran. True for faults that do not come from writing.
+    pub(crate) fn may_be_written(&self, value: Value) -> bool {
+        match self.fault.code {
+            FaultCode::Frozen => !self.is_own(value),
+            FaultCode::Iterating => self.is_own(value),
+            _ => true,
+        }
+    }
+
+    /// Whether a value is in the store of the run that stopped.
+    fn is_own(&self, value: Value) -> bool {
+        match value {
+            Value::Ref { home, .. } => home == self.fault.home,
+            _ => false,
+        }
+    }
+
     /// `left sign right`
     pub(crate) fn operands(
         &mut self,
-        at: usize,
         sign: &'static str,
         left: Option<Value>,
         right: Option<Value>,
@@ -88,14 +102,29 @@ impl<'w, 'a, 't> Look<'w, 'a, 't> {
         };
         let (left, right) = (self.shown(left)?, self.shown(right)?);
         let sign = Text::new(self.alloc, sign)?;
-        let about = About::Operands { sign, left, right };
-        Ok(Some(found_at(self.alloc, at, about)))
+        self.found(&[], About::Operands { sign, left, right })
     }
 
-    /// `sign value`
+    /// `left operator right`, or the field of a format that it does not fill.
+    fn computed_from(
+        &mut self,
+        operator: BinaryOperator,
+        left: Option<Value>,
+        right: Option<Value>,
+    ) -> Result<Option<Found>, AllocError> {
+        let is_of_format = matches!(self.fault.code, FaultCode::BadType | FaultCode::BadValue);
+        if is_of_format && operator == BinaryOperator::Modulo {
+            if let Some(found) = self.letters(left, right)? {
+                return Ok(Some(found));
+            }
+        }
+        self.operands(sign_of(operator), left, right)
+    }
+
+    /// `sign value`, to which these turns lead.
     pub(crate) fn operand(
         &mut self,
-        at: usize,
+        turns: &[Turn],
         sign: &'static str,
         value: Option<Value>,
     ) -> Result<Option<Found>, AllocError> {
@@ -104,8 +133,7 @@ impl<'w, 'a, 't> Look<'w, 'a, 't> {
         };
         let value = self.shown(value)?;
         let sign = Text::new(self.alloc, sign)?;
-        let about = About::Operand { sign, value };
-        Ok(Some(found_at(self.alloc, at, about)))
+        self.found(turns, About::Operand { sign, value })
     }
 
     /// The keys of a dictionary that are strings.
@@ -125,10 +153,10 @@ impl<'w, 'a, 't> Look<'w, 'a, 't> {
         Ok(keys)
     }
 
-    /// `value[at]`
+    /// `value[at]`, to which these turns lead.
     pub(crate) fn index(
         &mut self,
-        token: usize,
+        turns: &[Turn],
         value: Option<Value>,
         at: Option<Value>,
     ) -> Result<Option<Found>, AllocError> {
@@ -140,19 +168,60 @@ impl<'w, 'a, 't> Look<'w, 'a, 't> {
         let (value, at) = (self.shown(value)?, self.shown(at)?);
         Ok(Some(Found {
             about: About::Index { value, at, items },
-            at: token,
+            place: self.place(turns)?,
             names,
         }))
     }
 
-    /// A name that has no value.
-    pub(crate) fn unbound(&self, name: &Name) -> Result<Option<Found>, AllocError> {
+    /// Whether a name, read at a place, is one of the file itself.
+    fn is_global(&self, site: &Site, name: &Name) -> bool {
+        let Some(Spot::Frame { up, .. }) = self.world.spot(site.file, name.position.token) else {
+            return false;
+        };
+        let mut frame = Some(site.frame);
+        for _ in 0..up {
+            frame = match self.frame(frame) {
+                Some(inner) => inner.parent,
+                None => None,
+            };
+        }
+        match self.frame(frame) {
+            Some(frame) => frame.block == 0,
+            None => false,
+        }
+    }
+
+    /// The frame that a value leads to.
+    fn frame(&self, value: Option<Value>) -> Option<&Frame> {
+        match self.machine.read(self.world.setting(), value?) {
+            Some(Cell::Frame(frame)) => Some(frame.get()),
+            _ => None,
+        }
+    }
+
+    /// A name that has no value at a place.
+    pub(crate) fn unbound(&self, site: &Site, name: &Name) -> Result<Option<Found>, AllocError> {
         if self.fault.code != FaultCode::Unbound {
             return Ok(None);
         }
-        let token = name.position.token;
-        let about = About::Name(name.text.share()?);
-        Ok(Some(found_at(self.alloc, token, about)))
+        let place = Place::Word(name.position.token);
+        let about = About::Name {
+            name: name.text.share()?,
+            is_global: self.is_global(site, name),
+        };
+        Ok(Some(found_at(self.alloc, place, about)))
+    }
+
+    /// The names of the fields of a struct.
+    fn fields(&self, value: Value) -> Result<Vec<Text>, AllocError> {
+        let mut names = Vec::new(self.alloc);
+        let content = self.machine.content(self.world.setting(), value);
+        if let Content::Held(Cell::Struct(fields)) = content {
+            for name in fields.get().names().iter().take(MOST_KEYS) {
+                names.push(name.share()?)?;
+            }
+        }
+        Ok(names)
     }
 
     /// `value.name`
@@ -161,45 +230,52 @@ impl<'w, 'a, 't> Look<'w, 'a, 't> {
         name: &Name,
         value: Option<Value>,
     ) -> Result<Option<Found>, AllocError> {
-        let Some(value) = value else {
+        let (Some(value), FaultCode::BadType) = (value, self.fault.code) else {
             return Ok(None);
         };
-        let token = name.position.token;
+        let names = self.fields(value)?;
+        let place = Place::Word(name.position.token);
         let about = About::Attribute {
             name: name.text.share()?,
             value: self.shown(value)?,
         };
-        Ok(Some(found_at(self.alloc, token, about)))
+        Ok(Some(Found {
+            about,
+            place,
+            names,
+        }))
     }
 
     /// `value[start:stop:stride]`
-    fn slice(&mut self, at: usize, value: Option<Value>) -> Result<Option<Found>, AllocError> {
+    fn slice(&mut self, value: Option<Value>) -> Result<Option<Found>, AllocError> {
         let Some(value) = value else {
             return Ok(None);
         };
         let value = self.shown(value)?;
-        Ok(Some(found_at(self.alloc, at, About::Slice { value })))
+        self.found(&[], About::Slice { value })
     }
 
-    /// A value that a loop was to go over.
+    /// A value that a loop was to go over, or that was to be unpacked: an item of a value of a type, if it is one. These
+    /// turns lead to its place.
     pub(crate) fn iterable(
         &mut self,
-        at: usize,
+        turns: &[Turn],
         value: Value,
+        of: Option<Type>,
     ) -> Result<Option<Found>, AllocError> {
         let value = self.shown(value)?;
-        Ok(Some(found_at(self.alloc, at, About::Iterable { value })))
+        self.found(turns, About::Iterable { value, of })
     }
 
     /// Whether a value cannot be a key.
-    fn is_no_key(&mut self, key: Value) -> bool {
+    pub(crate) fn is_no_key(&mut self, key: Value) -> bool {
         let line = self.fault.line;
         self.machine
             .check_key(self.world.setting(), LEVELS, line, key)
             .is_err()
     }
 
-    /// Whether a key is equal to an earlier one.
+    /// Whether a key is equal to one of those before it.
     fn is_among(&mut self, key: Value, before: &[Value]) -> bool {
         let line = self.fault.line;
         let setting = self.world.setting();
@@ -211,16 +287,16 @@ impl<'w, 'a, 't> Look<'w, 'a, 't> {
         false
     }
 
-    /// The value, if it cannot be a key.
+    /// The value of the key of an entry, if it cannot be a key.
     pub(crate) fn bad_key(
         &mut self,
-        at: usize,
+        entry: usize,
         key: Option<Value>,
     ) -> Result<Option<Found>, AllocError> {
         match key {
             Some(key) if self.is_no_key(key) => {
                 let key = self.shown(key)?;
-                Ok(Some(found_at(self.alloc, at, About::Key { key })))
+                self.found(&[Turn::Key(entry)], About::Key { key })
             }
             _ => Ok(None),
         }
@@ -228,68 +304,48 @@ impl<'w, 'a, 't> Look<'w, 'a, 't> {
 
     /// The key at fault in a dictionary display whose parts have these values: for the fault `Key` one that comes
     /// twice, for any other the first that cannot be a key.
-    fn display(
-        &mut self,
-        at: usize,
-        values: &[Option<Value>],
-    ) -> Result<Option<Found>, AllocError> {
+    fn display(&mut self, values: &[Option<Value>]) -> Result<Option<Found>, AllocError> {
         let mut before = Vec::new(self.alloc);
-        for key in values.iter().step_by(2) {
+        for (entry, key) in values.iter().step_by(2).take(MOST_ENTRIES).enumerate() {
             let Some(key) = *key else {
                 return Ok(None);
             };
             if self.fault.code != FaultCode::Key {
-                if let Some(found) = self.bad_key(at, Some(key))? {
+                if let Some(found) = self.bad_key(entry, Some(key))? {
                     return Ok(Some(found));
                 }
             } else if self.is_among(key, before.as_slice()) {
                 let key = self.shown(key)?;
-                return Ok(Some(found_at(self.alloc, at, About::Key { key })));
+                return self.found(&[Turn::Key(entry)], About::Key { key });
             }
             before.push(key)?;
         }
         Ok(None)
     }
 
-    /// Reports the values that the fault at this expression is about. `token` is a token at the expression or before
-    /// it.
-    pub(crate) fn about(
-        &mut self,
-        token: usize,
-        culprit: &Culprit<'_>,
-    ) -> Result<Option<Found>, AllocError> {
-        let ran = &culprit.ran;
-        let (first, second) = (ran.value(0), ran.value(1));
-        match culprit.expression {
-            Expression::Name(name) => self.unbound(name),
-            Expression::Dict(_) => self.display(token, ran.values.as_slice()),
+    /// Reports the values that the fault at an expression is about, whose parts do not stop as the run did.
+    pub(crate) fn about(&mut self, visit: &Visit<'_>) -> Result<Option<Found>, AllocError> {
+        let (first, second) = (visit.value(0), visit.value(1));
+        match visit.expression {
+            Expression::Name(name) => self.unbound(&visit.site, name),
+            Expression::Dict(_) => self.display(visit.values.as_slice()),
             Expression::ListComprehension { .. } | Expression::DictComprehension { .. } => {
-                self.comprehension(&culprit.site, culprit.expression, ran)
+                self.comprehension(visit)
             }
             Expression::Unary { operator, .. } => {
-                self.operand(token, sign_before(*operator), first)
+                self.operand(&[], sign_before(*operator), first)
             }
-            Expression::Binary { operator, left, .. } => {
-                let at = after(token, left.get());
-                self.operands(at, sign_of(*operator), first, second)
-            }
-            Expression::Compare {
-                comparator,
-                left,
-                ..
-            } => {
-                let at = after(token, left.get());
-                self.operands(at, sign_between(*comparator), first, second)
+            Expression::Binary { operator, .. } => { self.computed_from(*operator, first, second) }
+            Expression::Compare { comparator, .. } => {
+                self.operands(sign_between(*comparator), first, second)
             }
             Expression::Call {
                 function,
                 arguments,
-            } => self.call(token, function.get(), arguments.as_slice(), ran),
+            } => self.call(function.get(), arguments.as_slice(), visit),
             Expression::Attribute { name, .. } => self.attribute(name, first),
-            Expression::Index { value, .. } => {
-                self.index(after(token, value.get()), first, second)
-            }
-            Expression::Slice { value, .. } => self.slice(after(token, value.get()), first),
+            Expression::Index { .. } => self.index(&[], first, second),
+            Expression::Slice { .. } => self.slice(first),
             _ => Ok(None),
         }
     }

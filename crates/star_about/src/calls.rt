@@ -2,10 +2,10 @@
 
 use crate::fits::{Arguments, Named, keywords_of, misfit};
 use crate::look::{Look, found_at};
-use crate::parts::last_token;
-use crate::search::Ran;
+use crate::parts::word_of;
+use crate::search::Visit;
 use star_call::callee::definition_number;
-use star_found::about::{About, Found, Misfit, Shown, Type};
+use star_found::about::{About, Found, Misfit, Place, Shown, Turn, Type};
 use star_machine::content::Kind;
 use star_meaning::fault::FaultCode;
 use star_store::values::Value;
@@ -19,7 +19,7 @@ const MOST_ITEMS: usize = 10_000;
 /// The keyword arguments that a built-in function or a method takes; `None` if it takes any name.
 fn names_of(name: &str) -> Option<&'static [&'static str]> {
     match name {
-        "dict" | "update" | "format" => None,
+        "dict" | "update" | "format" | "struct" => None,
         "print" => Some(&["sep"]),
         "sorted" => Some(&["reverse"]),
         _ => Some(&[]),
@@ -35,26 +35,35 @@ fn texts_of(alloc: Global, names: &[&str]) -> Result<Vec<Text>, AllocError> {
     Ok(texts)
 }
 
-/// A call whose arguments do not fit the parameters. `names` are the names that a keyword argument may have.
-fn misfitting(
-    alloc: Global,
-    at: usize,
-    token: Option<usize>,
-    callee: Shown,
-    (misfit, word): (Misfit, Option<usize>),
-    names: &[&str],
-) -> Result<Option<Found>, AllocError> {
-    let names = texts_of(alloc, names)?;
-    let about = About::Call {
-        is_named: token.is_some(),
-        callee,
-        misfit: Some(misfit),
-    };
-    let at = word.unwrap_or(at);
-    Ok(Some(Found { about, at, names }))
-}
-
 impl<'w, 'a, 't> Look<'w, 'a, 't> {
+    /// The place of a call: its name, or else the call itself.
+    pub(crate) fn place_of(&self, word: Option<usize>) -> Result<Place, AllocError> {
+        match word {
+            Some(token) => Ok(Place::Word(token)),
+            None => self.place(&[]),
+        }
+    }
+
+    /// A call whose arguments do not fit the parameters. `word` is the token of its name, or else of the argument at
+    /// fault, `names` are the names that a keyword argument may have.
+    fn misfitting(
+        &self,
+        word: Option<usize>,
+        callee: Shown,
+        (misfit, argument): (Misfit, Option<usize>),
+        names: &[&str],
+    ) -> Result<Option<Found>, AllocError> {
+        let about = About::Call {
+            callee,
+            misfit: Some(misfit),
+        };
+        Ok(Some(Found {
+            about,
+            place: self.place_of(argument.or(word))?,
+            names: texts_of(self.alloc, names)?,
+        }))
+    }
+
     /// Adds the items of a value to the positional arguments; answers whether the value is an iterable.
     fn add_items(&self, given: &mut Arguments, value: Value) -> Result<bool, AllocError> {
         let (setting, line) = (self.world.setting(), self.fault.line);
@@ -84,7 +93,11 @@ impl<'w, 'a, 't> Look<'w, 'a, 't> {
                 return Ok(false);
             }
             let name = self.machine.copied_text(setting, key)?;
-            given.named.push(Named { name, token: None })?;
+            given.named.push(Named {
+                name,
+                value: None,
+                token: None,
+            })?;
         }
         Ok(true)
     }
@@ -102,7 +115,11 @@ impl<'w, 'a, 't> Look<'w, 'a, 't> {
             Argument::Named { name, .. } => {
                 let token = Some(name.position.token);
                 let name = name.text.share()?;
-                given.named.push(Named { name, token })?;
+                given.named.push(Named {
+                    name,
+                    value: Some(value),
+                    token,
+                })?;
             }
             Argument::Star(_) => {
                 if !self.add_items(given, value)? {
@@ -119,19 +136,12 @@ impl<'w, 'a, 't> Look<'w, 'a, 't> {
     }
 
     /// A call of a value that cannot be called, or of a function that is already active.
-    fn called(
-        &mut self,
-        at: usize,
-        token: Option<usize>,
-        value: Value,
-    ) -> Result<Option<Found>, AllocError> {
-        let callee = self.shown(value)?;
+    fn called(&mut self, word: Option<usize>, value: Value) -> Result<Option<Found>, AllocError> {
         let about = About::Call {
-            is_named: token.is_some(),
-            callee,
+            callee: self.shown(value)?,
             misfit: None,
         };
-        Ok(Some(found_at(self.alloc, at, about)))
+        Ok(Some(found_at(self.alloc, self.place_of(word)?, about)))
     }
 
     /// The parameters of a function.
@@ -143,13 +153,12 @@ impl<'w, 'a, 't> Look<'w, 'a, 't> {
     /// A call of a function.
     fn function(
         &mut self,
-        at: usize,
-        token: Option<usize>,
+        word: Option<usize>,
         value: Value,
         given: &Arguments,
     ) -> Result<Option<Found>, AllocError> {
         if self.fault.code == FaultCode::Recursion {
-            return self.called(at, token, value);
+            return self.called(word, value);
         }
         let Some(parameters) = self.parameters(value) else {
             return Ok(None);
@@ -161,16 +170,40 @@ impl<'w, 'a, 't> Look<'w, 'a, 't> {
             Some(misfit) => {
                 let names = keywords_of(self.alloc, parameters)?;
                 let callee = self.shown(value)?;
-                misfitting(self.alloc, at, token, callee, misfit, names.as_slice())
+                self.misfitting(word, callee, misfit, names.as_slice())
             }
             None => Ok(None),
         }
     }
 
+    /// A call of `print` or `fail` whose `sep` is not a string.
+    fn separator(
+        &mut self,
+        word: Option<usize>,
+        name: &'static str,
+        given: &Arguments,
+    ) -> Result<Option<Found>, AllocError> {
+        if self.fault.code != FaultCode::BadType || !matches!(name, "print" | "fail") {
+            return Ok(None);
+        }
+        let Some(named) = given.named("sep") else {
+            return Ok(None);
+        };
+        let about = About::BuiltIn {
+            name: Text::new(self.alloc, name)?,
+            receiver: None,
+            first: self.maybe_shown(named.value)?,
+            second: None,
+            given: given.count(),
+        };
+        let place = self.place_of(named.token.or(word))?;
+        Ok(Some(found_at(self.alloc, place, about)))
+    }
+
     /// A call of a built-in function, or of a method of a receiver.
     fn built_in(
         &mut self,
-        at: usize,
+        word: Option<usize>,
         name: &'static str,
         receiver: Option<Value>,
         given: &Arguments,
@@ -183,16 +216,17 @@ impl<'w, 'a, 't> Look<'w, 'a, 't> {
                         text: Text::new(self.alloc, name)?,
                     };
                     let misfit = Misfit::Unknown(named.name.share()?);
-                    return misfitting(
-                        self.alloc,
-                        at,
-                        Some(at),
-                        callee,
-                        (misfit, named.token),
-                        names,
-                    );
+                    return self.misfitting(word, callee, (misfit, named.token), names);
                 }
             }
+        }
+        if name == "format" {
+            if let Some(found) = self.field_of_format(word, receiver, given)? {
+                return Ok(Some(found));
+            }
+        }
+        if let Some(found) = self.separator(word, name, given)? {
+            return Ok(Some(found));
         }
         let about = About::BuiltIn {
             name: Text::new(self.alloc, name)?,
@@ -201,48 +235,66 @@ impl<'w, 'a, 't> Look<'w, 'a, 't> {
             second: self.maybe_shown(given.plain.get(1).copied())?,
             given: given.count(),
         };
-        Ok(Some(found_at(self.alloc, at, about)))
+        Ok(Some(found_at(self.alloc, self.place_of(word)?, about)))
     }
 
-    /// Reports the values that the fault of this call is about. `ran` has the values of the function and the arguments;
-    /// `token` is a token at the call or before it.
+    /// The arguments of a call whose parts have these values, or the report on a value that cannot be spread;
+    /// `None` if a value is not known, but for a write, where the receiver suffices.
+    fn given(
+        &mut self,
+        arguments: &[Argument],
+        visit: &Visit<'_>,
+    ) -> Result<Option<Result<Arguments, Option<Found>>>, AllocError> {
+        let mut given = Arguments::new(self.alloc);
+        for (i, argument) in arguments.iter().enumerate() {
+            let Some(value) = visit.value(i.saturating_add(1)) else {
+                return Ok(if self.is_of_writing() {
+                    Some(Ok(given))
+                } else {
+                    None
+                });
+            };
+            if let Some(sign) = self.add(&mut given, argument, value)? {
+                let found = self.operand(&[Turn::Argument(i)], sign, Some(value))?;
+                return Ok(Some(Err(found)));
+            }
+        }
+        Ok(Some(Ok(given)))
+    }
+
+    /// Reports the values that the fault of this call is about, whose parts do not stop as the run did.
     pub(crate) fn call(
         &mut self,
-        token: usize,
         function: &Expression,
         arguments: &[Argument],
-        ran: &Ran<'_>,
+        visit: &Visit<'_>,
     ) -> Result<Option<Found>, AllocError> {
-        let Some(callee) = ran.value(0) else {
+        let Some(callee) = visit.value(0) else {
             return Ok(None);
         };
-        let word = last_token(function);
-        let at = word.unwrap_or(token);
+        let word = word_of(function);
         let kind = self.kind(callee);
         if !matches!(
             kind,
             Kind::Function | Kind::BuiltInFunction(_) | Kind::Method(..)
         ) {
             return match self.fault.code {
-                FaultCode::BadType => self.called(at, word, callee),
+                FaultCode::BadType => self.called(word, callee),
                 _ => Ok(None),
             };
         }
-        let mut given = Arguments::new(self.alloc);
-        for (i, argument) in arguments.iter().enumerate() {
-            let Some(value) = ran.value(i.saturating_add(1)) else {
-                return Ok(None);
-            };
-            if let Some(sign) = self.add(&mut given, argument, value)? {
-                return self.operand(at, sign, Some(value));
-            }
-        }
+        let given = match self.given(arguments, visit)? {
+            Some(Ok(given)) => given,
+            Some(Err(found)) => return Ok(found),
+            None => return Ok(None),
+        };
         match kind {
-            Kind::BuiltInFunction(function) => self.built_in(at, function.name(), None, &given),
-            Kind::Method(method, receiver) => {
-                self.built_in(at, method.name(), Some(receiver), &given)
+            Kind::BuiltInFunction(function) => self.built_in(word, function.name(), None, &given),
+            Kind::Method(method, receiver) if self.may_be_written(receiver) => {
+                self.built_in(word, method.name(), Some(receiver), &given)
             }
-            _ => self.function(at, word, callee, &given),
+            Kind::Function => self.function(word, callee, &given),
+            _ => Ok(None),
         }
     }
 }

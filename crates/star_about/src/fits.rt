@@ -10,6 +10,8 @@ use std::alloc::{AllocError, Global};
 #[derive(Drop)]
 pub(crate) struct Named {
     pub name: Text,
+    /// Its value; `None` if it comes from `**`.
+    pub value: Option<Value>,
     /// The token of the name, if it is written in the call; `None` if it comes from `**`.
     pub token: Option<usize>,
 }
@@ -35,9 +37,14 @@ impl Arguments {
         self.plain.len().saturating_add(self.named.len())
     }
 
-    /// Whether a keyword argument has this name.
-    fn has(&self, name: &str) -> bool {
-        self.named.iter().any(|named| named.name.as_str() == name)
+    /// The first keyword argument with this name.
+    pub(crate) fn named(&self, name: &str) -> Option<&Named> {
+        for named in &self.named {
+            if named.name.as_str() == name {
+                return Some(named);
+            }
+        }
+        None
     }
 
     /// The first keyword argument with the name of one before it.
@@ -100,11 +107,12 @@ fn extra_keywords<'g>(
     Ok(given.unknown(names.as_slice()))
 }
 
-/// The first parameter that gets no value, or two; else that positional arguments are left over.
+/// The first parameter that gets no value, or two, then with the token of the keyword argument if it is written in the
+/// call; else that positional arguments are left over.
 fn by_parameters(
     parameters: &[Parameter],
     given: &Arguments,
-) -> Result<Option<Misfit>, AllocError> {
+) -> Result<Option<(Misfit, Option<usize>)>, AllocError> {
     let mut taken: usize = 0;
     let mut most: usize = 0;
     let mut is_by_name = false;
@@ -116,22 +124,22 @@ fn by_parameters(
             is_by_name = is_by_name || !matches!(parameter, Parameter::StarStar(_));
             continue;
         };
-        let is_named = given.has(name.text.as_str());
+        let named = given.named(name.text.as_str());
         if !is_by_name {
             most = most.saturating_add(1);
         }
         if !is_by_name && taken < given.plain.len() {
             taken = taken.saturating_add(1);
-            if is_named {
-                return Ok(Some(Misfit::Twice(name.text.share()?)));
+            if let Some(named) = named {
+                return Ok(Some((Misfit::Twice(name.text.share()?), named.token)));
             }
-        } else if !is_named && matches!(parameter, Parameter::Plain(_)) {
-            return Ok(Some(Misfit::Missing(name.text.share()?)));
+        } else if named.is_none() && matches!(parameter, Parameter::Plain(_)) {
+            return Ok(Some((Misfit::Missing(name.text.share()?), None)));
         }
     }
     let given = given.plain.len();
     if taken < given {
-        return Ok(Some(Misfit::TooMany { given, most }));
+        return Ok(Some((Misfit::TooMany { given, most }, None)));
     }
     Ok(None)
 }
@@ -149,6 +157,5 @@ pub(crate) fn misfit(
     if let Some(named) = given.repeated() {
         return Ok(Some((Misfit::Twice(named.name.share()?), named.token)));
     }
-    let found = by_parameters(parameters, given)?;
-    Ok(found.map(|misfit| (misfit, None)))
+    by_parameters(parameters, given)
 }

@@ -2,9 +2,10 @@
 
 use crate::abouts::assigning;
 use crate::look::Look;
-use crate::parts::{add_defaults, last_token};
+use crate::parts::{Part, add_defaults};
 use crate::search::LEVELS;
-use star_found::about::{About, Found};
+use crate::unpacking::{Source, Unbound};
+use star_found::about::{About, Found, Place, Turn};
 use star_meaning::fault::FaultCode;
 use star_meaning::site::Site;
 use star_operators::subscript::index;
@@ -13,34 +14,56 @@ use star_text::Text;
 use star_tree::tree::{Arm, BinaryOperator, Expression, Form, LoadedName, Statement, Target};
 use std::alloc::AllocError;
 
+/// Whether a value is bound to a name, which nothing can stop.
+fn is_name(target: &Target) -> bool {
+    matches!(target, Target::Name(_))
+}
+
 impl<'w, 'a, 't> Look<'w, 'a, 't> {
-    /// Evaluates parts in order: a report on the first that stops as the run did, and the values of the parts before
-    /// it; or the values of all parts.
-    fn first_of(
+    /// The value of a part to which a turn leads, or `None` if it cannot be evaluated again; or else a report, if it
+    /// stops as the run did.
+    pub(crate) fn value_here(
         &mut self,
         site: &Site,
-        token: usize,
-        parts: &[&Expression],
-    ) -> Result<(Option<Found>, Vec<Option<Value>>), AllocError> {
-        let ran = self.run(site, parts)?;
-        let found = match ran.failing {
-            Some(part) => self.in_expression(site, token, part)?,
-            None => None,
-        };
-        Ok((found, ran.values))
+        turn: Turn,
+        part: &Expression,
+    ) -> Result<Result<Option<Value>, Option<Found>>, AllocError> {
+        match self.value_or_same(site, part)? {
+            Ok(value) => return Ok(Ok(Some(value))),
+            Err(false) => return Ok(Ok(None)),
+            Err(true) => {}
+        }
+        let depth = self.way.len();
+        self.way.push(turn)?;
+        let found = self.in_expression(site, part)?;
+        self.way.truncate(depth);
+        match found {
+            Some(found) => Ok(Err(Some(found))),
+            None => Ok(Ok(None)),
+        }
     }
 
-    /// Evaluates one part: its value, or else a report, if it stops as the run did.
-    fn value_of_one(
+    /// The report on the expression to which a turn leads.
+    fn whole(
         &mut self,
         site: &Site,
-        token: usize,
-        part: &Expression,
-    ) -> Result<Result<Value, Option<Found>>, AllocError> {
-        let (found, values) = self.first_of(site, token, &[part])?;
-        match values.first().copied() {
-            Some(Some(value)) => Ok(Ok(value)),
-            _ => Ok(Err(found)),
+        turn: Turn,
+        expression: &Expression,
+    ) -> Result<Option<Found>, AllocError> {
+        self.way.push(turn)?;
+        self.in_expression(site, expression)
+    }
+
+    /// Reports why a value cannot be bound to a target, at which the way of the search was left.
+    fn why_unbound(
+        &mut self,
+        site: &Site,
+        reason: Option<Unbound<'_>>,
+    ) -> Result<Option<Found>, AllocError> {
+        match reason {
+            Some(Unbound::Found(found)) => Ok(Some(found)),
+            Some(Unbound::Part(turn, part)) => self.whole(site, turn, part),
+            None => Ok(None),
         }
     }
 
@@ -48,132 +71,163 @@ impl<'w, 'a, 't> Look<'w, 'a, 't> {
     fn assigned(
         &mut self,
         site: &Site,
-        token: usize,
         target: &Target,
         value: &Expression,
     ) -> Result<Option<Found>, AllocError> {
-        let value = match self.value_of_one(site, token, value)? {
-            Ok(value) => value,
-            Err(found) => return Ok(found),
-        };
-        match target {
-            Target::Name(_) => Ok(None),
-            Target::Index { value: base, index } => {
-                self.element(site, token, base.get(), index.get())
+        match self.value_here(site, Turn::Assigned, value)? {
+            Ok(Some(value)) => {
+                let source = Source::Part(Turn::Assigned);
+                let reason = self.bound(site, Turn::Target, target, value, source)?;
+                self.why_unbound(site, reason)
             }
-            Target::Tuple(_) | Target::List(_) => self.unpacked(token, target, value),
+            Ok(None) => self.unknown(site, target, value),
+            Err(_) if self.fault.code == FaultCode::Iterating && !is_name(target) => Ok(None),
+            Err(found) => Ok(found),
         }
     }
 
-    /// The target `base[at]`: reports a part that stops, or else the value and the index.
-    fn element(
+    /// `target = value`, if the value cannot be evaluated again. Then a name is not at fault.
+    fn unknown(
         &mut self,
         site: &Site,
-        token: usize,
-        base: &Expression,
-        at: &Expression,
+        target: &Target,
+        value: &Expression,
     ) -> Result<Option<Found>, AllocError> {
-        let (found, values) = self.first_of(site, token, &[base, at])?;
-        if found.is_some() {
-            return Ok(found);
+        match target {
+            Target::Name(_) => self.whole(site, Turn::Assigned, value),
+            Target::Index { value: base, index } => {
+                let depth = self.way.len();
+                self.way.push(Turn::Target)?;
+                let reason = self.unset(site, base.get(), index.get())?;
+                if let Some(found) = self.why_unbound(site, reason)? {
+                    return Ok(Some(found));
+                }
+                self.way.truncate(depth);
+                self.whole(site, Turn::Assigned, value)
+            }
+            Target::Tuple(_) | Target::List(_) => Ok(None),
         }
-        let value = values.first().copied().flatten();
-        let at = values.get(1).copied().flatten();
-        self.index(last_token(base).unwrap_or(token), value, at)
     }
 
     /// `target operator= value`, if the target has the value `old`.
     fn computed(
         &mut self,
         site: &Site,
-        token: usize,
         operator: BinaryOperator,
         old: Value,
         value: &Expression,
     ) -> Result<Option<Found>, AllocError> {
-        let (found, values) = self.first_of(site, token, &[value])?;
-        if found.is_some() {
-            return Ok(found);
+        match self.value_here(site, Turn::Assigned, value)? {
+            Ok(by) if self.may_be_written(old) => {
+                self.operands(assigning(operator), Some(old), by)
+            }
+            Ok(_) => Ok(None),
+            Err(found) => Ok(found),
         }
-        let by = values.first().copied().flatten();
-        self.operands(token, assigning(operator), Some(old), by)
+    }
+
+    /// `base[at] operator= value`
+    fn changed(
+        &mut self,
+        site: &Site,
+        operator: BinaryOperator,
+        (base, at): (&Expression, &Expression),
+        value: &Expression,
+    ) -> Result<Option<Found>, AllocError> {
+        self.way.push(Turn::Target)?;
+        let owner = match self.value_here(site, Turn::Owner, base)? {
+            Ok(owner) => owner,
+            Err(found) => return Ok(found),
+        };
+        let at = match self.value_here(site, Turn::Index, at)? {
+            Ok(at) => at,
+            Err(found) => return Ok(found),
+        };
+        self.way.pop();
+        match self.old_value(owner, at) {
+            Some(old) if !self.is_of_writing() => self.computed(site, operator, old, value),
+            _ => self.index(&[Turn::Target], owner, at),
+        }
     }
 
     /// `target operator= value`
     fn augmented(
         &mut self,
         site: &Site,
-        token: usize,
         operator: BinaryOperator,
         target: &Target,
         value: &Expression,
     ) -> Result<Option<Found>, AllocError> {
         match target {
             Target::Name(name) => match self.read(site, name) {
-                Some(old) => self.computed(site, token, operator, old, value),
-                None => self.unbound(name),
+                Some(old) => self.computed(site, operator, old, value),
+                None => self.unbound(site, name),
             },
             Target::Index { value: base, index } => {
-                let (base, index) = (base.get(), index.get());
-                let (found, values) = self.first_of(site, token, &[base, index])?;
-                if found.is_some() {
-                    return Ok(found);
-                }
-                match self.old_value(values.as_slice()) {
-                    Some(old) if !self.is_of_writing() => {
-                        self.computed(site, token, operator, old, value)
-                    }
-                    _ => self.element(site, token, base, index),
-                }
+                self.changed(site, operator, (base.get(), index.get()), value)
             }
             _ => Ok(None),
         }
     }
 
     /// Whether the fault comes from writing to a value.
-    fn is_of_writing(&self) -> bool {
+    pub(crate) fn is_of_writing(&self) -> bool {
         matches!(self.fault.code, FaultCode::Frozen | FaultCode::Iterating)
     }
 
-    /// The item of a value at an index, from the values of both; `None` if it has none.
-    fn old_value(&mut self, values: &[Option<Value>]) -> Option<Value> {
-        let base = values.first().copied().flatten()?;
-        let at = values.get(1).copied().flatten()?;
+    /// The item of a value at an index; `None` if it has none.
+    fn old_value(&mut self, value: Option<Value>, at: Option<Value>) -> Option<Value> {
+        let (value, at) = (value?, at?);
         let (setting, line) = (self.world.setting(), self.fault.line);
-        index(&mut self.machine, setting, LEVELS, line, base, at).ok()
+        index(&mut self.machine, setting, LEVELS, line, value, at).ok()
     }
 
     /// The conditions of an `if`, up to the first that is true.
-    fn conditions(
-        &mut self,
-        site: &Site,
-        token: usize,
-        arms: &[Arm],
-    ) -> Result<Option<Found>, AllocError> {
-        for arm in arms {
-            let value = match self.value_of_one(site, token, &arm.condition)? {
-                Ok(value) => value,
+    fn conditions(&mut self, site: &Site, arms: &[Arm]) -> Result<Option<Found>, AllocError> {
+        let is_one = arms.len() == 1;
+        for (n, arm) in arms.iter().enumerate() {
+            match self.value_here(site, Turn::Arm(n), &arm.condition)? {
+                Ok(Some(value)) if !self.machine.is_true(self.world.setting(), value) => {}
+                Ok(None) if n.saturating_add(1) == arms.len() => {
+                    return self.whole(site, Turn::Arm(n), &arm.condition);
+                }
+                Ok(_) => return Ok(None),
+                Err(_) if self.fault.code == FaultCode::Iterating && !is_one => return Ok(None),
                 Err(found) => return Ok(found),
-            };
-            if self.machine.is_true(self.world.setting(), value) {
-                break;
             }
         }
         Ok(None)
     }
 
-    /// The iterable of a `for`, or the first of its items that cannot be unpacked to the target.
+    /// The iterable of a `for`, or the first of its items that cannot be bound to the target.
     fn looped(
         &mut self,
         site: &Site,
-        token: usize,
         target: &Target,
         iterable: &Expression,
     ) -> Result<Option<Found>, AllocError> {
-        match self.value_of_one(site, token, iterable)? {
-            Ok(value) => self.items_unpacked(token, target, value),
+        match self.value_here(site, Turn::Iterable, iterable)? {
+            Ok(Some(value)) => {
+                let turns = (Turn::Iterable, Turn::Target);
+                let reason = self.items_bound(site, turns, target, value)?;
+                self.why_unbound(site, reason)
+            }
+            Ok(None) if self.fault.code != FaultCode::BadType && is_name(target) => {
+                self.whole(site, Turn::Iterable, iterable)
+            }
+            Ok(None) => Ok(None),
             Err(found) => Ok(found),
         }
+    }
+
+    /// The defaults of a definition, up to the first that stops as the run did.
+    fn defaults(&mut self, site: &Site, parts: &[Part<'_>]) -> Result<Option<Found>, AllocError> {
+        for part in parts {
+            if let Err(found) = self.value_here(site, part.turn, part.expression)? {
+                return Ok(found);
+            }
+        }
+        Ok(None)
     }
 
     /// The names that a file binds at top level, without the names that it loads.
@@ -204,11 +258,9 @@ impl<'w, 'a, 't> Look<'w, 'a, 't> {
         for name in names {
             let text = &name.loaded.text;
             if store.global(text.as_str()).is_none() {
-                let token = name.loaded.position.token;
-
                 return Ok(Some(Found {
                     about: About::Loaded(text.share()?),
-                    at: token,
+                    place: Place::Word(name.loaded.position.token),
                     names: self.globals(file)?,
                 }));
             }
@@ -224,26 +276,25 @@ impl<'w, 'a, 't> Look<'w, 'a, 't> {
     ) -> Result<Option<Found>, AllocError> {
         let token = statement.position.token;
         match &statement.form {
-            Form::Expression(value) | Form::Return(Some(value)) => {
-                self.in_expression(site, token, value)
-            }
-            Form::Assign { target, value } => self.assigned(site, token, target, value),
+            Form::Expression(value) => self.whole(site, Turn::Alone, value),
+            Form::Return(Some(value)) => self.whole(site, Turn::Returned, value),
+            Form::Assign { target, value } => self.assigned(site, target, value),
             Form::Augment {
                 target,
                 operator,
                 value,
-            } => self.augmented(site, token, *operator, target, value),
-            Form::If { arms, .. } => self.conditions(site, token, arms.as_slice()),
+            } => self.augmented(site, *operator, target, value),
+            Form::If { arms, .. } => self.conditions(site, arms.as_slice()),
             Form::For {
                 target,
                 iterable,
                 ..
-            } => self.looped(site, token, target, iterable),
+            } => self.looped(site, target, iterable),
             Form::Load { names, .. } => self.loaded(token, names.as_slice()),
             Form::Def { parameters, .. } => {
                 let mut parts = Vec::new(self.alloc);
                 add_defaults(&mut parts, parameters.as_slice())?;
-                Ok(self.first_of(site, token, parts.as_slice())?.0)
+                self.defaults(site, parts.as_slice())
             }
             _ => Ok(None),
         }

@@ -1,7 +1,7 @@
 //! The way in: a second look at the store of a run that has stopped.
 
 use star_dialect::Dialect;
-use star_found::about::{About, Found};
+use star_found::about::{About, Found, Place, Turn};
 use star_machine::fault::EvalError;
 use star_machine::machine::Machine;
 use star_meaning::fault::FaultCode;
@@ -14,6 +14,9 @@ use std::alloc::{AllocError, Global};
 
 /// The number of steps that the second look may take.
 const STEPS: u32 = 100_000;
+
+/// The number of comprehensions whose frames may be sought.
+const FRAMES: usize = 100;
 
 /// How the run of a file has stopped.
 #[derive(Clone, Copy)]
@@ -35,18 +38,35 @@ pub(crate) struct Look<'w, 'a, 't> {
     pub world: &'w World<'a, 't>,
     pub machine: Machine,
     pub fault: Fault<'w>,
+    /// The way to the part that the search has come to.
+    pub way: Vec<Turn>,
+    /// How many more frames of comprehensions may be sought among the cells.
+    pub frames: usize,
 }
 
-/// A report on a fault, with its token and no names to suggest.
-pub(crate) fn found_at(alloc: Global, at: usize, about: About) -> Found {
+/// A report on a fault at a place, with no names to suggest.
+pub(crate) fn found_at(alloc: Global, place: Place, about: About) -> Found {
     Found {
         about,
-        at,
+        place,
         names: Vec::new(alloc),
     }
 }
 
 impl<'w, 'a, 't> Look<'w, 'a, 't> {
+    /// The place to which these turns lead from the part that the search has come to.
+    pub(crate) fn place(&self, turns: &[Turn]) -> Result<Place, AllocError> {
+        let mut way = Vec::with_capacity(self.alloc, self.way.len().saturating_add(turns.len()))?;
+        way.extend_from_slice(self.way.as_slice())?;
+        way.extend_from_slice(turns)?;
+        Ok(Place::Part(way))
+    }
+
+    /// A report on a fault at the part to which these turns lead, with no names to suggest.
+    pub(crate) fn found(&self, turns: &[Turn], about: About) -> Result<Option<Found>, AllocError> {
+        Ok(Some(found_at(self.alloc, self.place(turns)?, about)))
+    }
+
     /// Makes the definitions active that were active at the fault.
     fn activate(&mut self) -> Result<(), AllocError> {
         for step in self.fault.trail {
@@ -67,8 +87,7 @@ fn memory(answer: Result<(), EvalError>) -> Result<(), AllocError> {
     }
 }
 
-/// Reports the values that a fault is about: `None` if they are not found, and for the faults `Steps`, `Deep` and
-/// `Fail`. The published stores include the store of the run itself, as it was at the fault. The error: an allocation
+/// Reports the values that a fault is about: `None` if they are not found, and for the faults `Steps` and `Deep`. The published stores include the store of the run itself, as it was at the fault. The error: an allocation
 /// failed.
 pub fn seek<'a, 't>(
     alloc: Global,
@@ -78,10 +97,7 @@ pub fn seek<'a, 't>(
     loads: &'a [Load],
     prelude: Option<u32>,
 ) -> Result<Option<Found>, AllocError> {
-    if matches!(
-        fault.code,
-        FaultCode::Steps | FaultCode::Deep | FaultCode::Fail
-    ) {
+    if matches!(fault.code, FaultCode::Steps | FaultCode::Deep) {
         return Ok(None);
     }
     let Ok(own) = u32::try_from(files.statements().len()) else {
@@ -93,6 +109,8 @@ pub fn seek<'a, 't>(
         world: &world,
         machine: Machine::new(alloc, own, STEPS),
         fault,
+        way: Vec::new(alloc),
+        frames: FRAMES,
     };
     look.activate()?;
     match look.root(files) {

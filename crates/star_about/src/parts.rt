@@ -1,31 +1,44 @@
-//! The parts of an expression, in the order of their evaluation.
+//! The parts of an expression, in the order of their evaluation, and the turns that lead to them.
 
 use sqlite_items::Boxed;
 use star_enter::calls::expression_of;
+use star_found::about::Turn;
 use star_tree::tree::{Argument, Clause, Clauses, Entry, Expression, Parameter};
 use std::alloc::{AllocError, Global};
 
-/// The search for a token enters at most this many expressions.
-const DEPTH: usize = 400;
+/// A part, and the turn that leads to it.
+#[derive(Clone, Copy)]
+pub(crate) struct Part<'p> {
+    pub turn: Turn,
+    pub expression: &'p Expression,
+}
 
 /// Parts of an expression, in the order of their evaluation.
-type Parts<'p> = Vec<&'p Expression>;
+pub(crate) type Parts<'p> = Vec<Part<'p>>;
+
+fn add<'p>(
+    parts: &mut Parts<'p>,
+    turn: Turn,
+    expression: &'p Expression,
+) -> Result<(), AllocError> {
+    Ok(parts.push(Part { turn, expression })?)
+}
 
 fn add_each<'p>(parts: &mut Parts<'p>, more: &'p [Expression]) -> Result<(), AllocError> {
-    for part in more {
-        parts.push(part)?;
+    for (i, part) in more.iter().enumerate() {
+        add(parts, Turn::Item(i), part)?;
     }
     Ok(())
 }
 
-fn add_entry<'p>(parts: &mut Parts<'p>, entry: &'p Entry) -> Result<(), AllocError> {
-    parts.push(&entry.key)?;
-    Ok(parts.push(&entry.value)?)
+fn add_entry<'p>(parts: &mut Parts<'p>, n: usize, entry: &'p Entry) -> Result<(), AllocError> {
+    add(parts, Turn::Key(n), &entry.key)?;
+    add(parts, Turn::Value(n), &entry.value)
 }
 
 fn add_entries<'p>(parts: &mut Parts<'p>, entries: &'p [Entry]) -> Result<(), AllocError> {
-    for entry in entries {
-        add_entry(parts, entry)?;
+    for (n, entry) in entries.iter().enumerate() {
+        add_entry(parts, n, entry)?;
     }
     Ok(())
 }
@@ -35,9 +48,9 @@ pub(crate) fn add_defaults<'p>(
     parts: &mut Parts<'p>,
     parameters: &'p [Parameter],
 ) -> Result<(), AllocError> {
-    for parameter in parameters {
+    for (n, parameter) in parameters.iter().enumerate() {
         if let Parameter::Default { default, .. } = parameter {
-            parts.push(default)?;
+            add(parts, Turn::Default(n), default)?;
         }
     }
     Ok(())
@@ -49,9 +62,9 @@ fn add_call<'p>(
     function: &'p Expression,
     arguments: &'p [Argument],
 ) -> Result<(), AllocError> {
-    parts.push(function)?;
-    for argument in arguments {
-        parts.push(expression_of(argument))?;
+    add(parts, Turn::Function, function)?;
+    for (n, argument) in arguments.iter().enumerate() {
+        add(parts, Turn::Argument(n), expression_of(argument))?;
     }
     Ok(())
 }
@@ -59,12 +72,13 @@ fn add_call<'p>(
 /// Adds a bound of a slice, if it is written.
 fn add_bound<'p>(
     parts: &mut Parts<'p>,
+    n: usize,
     bound: &'p Option<Boxed<Expression>>,
 ) -> Result<(), AllocError> {
-    if let Some(bound) = bound {
-        parts.push(bound.get())?;
+    match bound {
+        Some(bound) => add(parts, Turn::Bound(n), bound.get()),
+        None => Ok(()),
     }
-    Ok(())
 }
 
 /// The parts of an expression that are evaluated first, in the expression's own frame: of a conditional its condition,
@@ -81,18 +95,20 @@ pub(crate) fn parts_of<'p>(
         }
         Expression::Dict(entries) => add_entries(&mut parts, entries.as_slice())?,
         Expression::ListComprehension { clauses, .. }
-        | Expression::DictComprehension { clauses, .. } => parts.push(
-            clauses.get().iterable.get(),
-        )?,
-        Expression::Unary { operand, .. } => parts.push(operand.get())?,
+        | Expression::DictComprehension { clauses, .. } => {
+            add(&mut parts, Turn::Clause(0), clauses.get().iterable.get())?;
+        }
+        Expression::Unary { operand, .. } => add(&mut parts, Turn::Operand, operand.get())?,
         Expression::Binary { left, right, .. }
         | Expression::Compare { left, right, .. }
         | Expression::And { left, right }
         | Expression::Or { left, right } => {
-            parts.push(left.get())?;
-            parts.push(right.get())?;
+            add(&mut parts, Turn::Left, left.get())?;
+            add(&mut parts, Turn::Right, right.get())?;
         }
-        Expression::Conditional { condition, .. } => parts.push(condition.get())?,
+        Expression::Conditional { condition, .. } => {
+            add(&mut parts, Turn::Condition, condition.get())?;
+        }
         Expression::Lambda { parameters, .. } => {
             add_defaults(&mut parts, parameters.get().as_slice())?;
         }
@@ -100,10 +116,10 @@ pub(crate) fn parts_of<'p>(
             function,
             arguments,
         } => add_call(&mut parts, function.get(), arguments.as_slice())?,
-        Expression::Attribute { value, .. } => parts.push(value.get())?,
+        Expression::Attribute { value, .. } => add(&mut parts, Turn::Owner, value.get())?,
         Expression::Index { value, index } => {
-            parts.push(value.get())?;
-            parts.push(index.get())?;
+            add(&mut parts, Turn::Owner, value.get())?;
+            add(&mut parts, Turn::Index, index.get())?;
         }
         Expression::Slice {
             value,
@@ -111,13 +127,25 @@ pub(crate) fn parts_of<'p>(
             stop,
             stride,
         } => {
-            parts.push(value.get())?;
-            add_bound(&mut parts, start)?;
-            add_bound(&mut parts, stop)?;
-            add_bound(&mut parts, stride)?;
+            add(&mut parts, Turn::Owner, value.get())?;
+            add_bound(&mut parts, 0, start)?;
+            add_bound(&mut parts, 1, stop)?;
+            add_bound(&mut parts, 2, stride)?;
         }
     }
     Ok(parts)
+}
+
+/// Adds what the clauses of a comprehension after the first go over, and the conditions that they test.
+fn add_clauses<'p>(parts: &mut Parts<'p>, clauses: &'p [Clause]) -> Result<(), AllocError> {
+    for (n, clause) in clauses.iter().enumerate() {
+        let expression = match clause {
+            Clause::For { iterable, .. } => iterable,
+            Clause::If(condition) => condition,
+        };
+        add(parts, Turn::Clause(n.saturating_add(1)), expression)?;
+    }
+    Ok(())
 }
 
 /// The parts of a comprehension that are evaluated in its own frame.
@@ -127,16 +155,13 @@ pub(crate) fn inner_parts<'p>(
 ) -> Result<Parts<'p>, AllocError> {
     let mut parts = Vec::new(alloc);
     if let Some(clauses) = clauses_of(expression) {
-        for clause in clauses.more.as_slice() {
-            match clause {
-                Clause::For { iterable, .. } => parts.push(iterable)?,
-                Clause::If(condition) => parts.push(condition)?,
-            }
-        }
+        add_clauses(&mut parts, clauses.more.as_slice())?;
     }
     match expression {
-        Expression::ListComprehension { element, .. } => parts.push(element.get())?,
-        Expression::DictComprehension { entry, .. } => add_entry(&mut parts, entry.get())?,
+        Expression::ListComprehension { element, .. } => {
+            add(&mut parts, Turn::Item(0), element.get())?;
+        }
+        Expression::DictComprehension { entry, .. } => add_entry(&mut parts, 0, entry.get())?,
         _ => {}
     }
     Ok(parts)
@@ -160,61 +185,10 @@ pub(crate) fn token_of(expression: &Expression) -> Option<usize> {
     }
 }
 
-/// Whether an expression has no token that is known.
-fn is_literal(expression: &Expression) -> bool {
-    matches!(expression, Expression::Int(_) | Expression::Text(_))
-}
-
-/// The last part of an expression that may have a token.
-fn last_part(expression: &Expression) -> Option<&Expression> {
+/// The token of the name that an expression is or ends with; `None` if it has no such name.
+pub(crate) fn word_of(expression: &Expression) -> Option<usize> {
     match expression {
-        Expression::Unary { operand, .. } => Some(operand.get()),
-        Expression::Binary { left, right, .. }
-        | Expression::Compare { left, right, .. }
-        | Expression::And { left, right }
-        | Expression::Or { left, right } => {
-            let part = if is_literal(right.get()) { left } else { right };
-            Some(part.get())
-        }
-        Expression::Conditional { otherwise, .. } => Some(otherwise.get()),
-        Expression::Call {
-            function,
-            arguments,
-        } => {
-            let last = arguments.as_slice().last();
-            let last = last.map(|argument| expression_of(argument));
-            Some(
-                last.filter(|part| !is_literal(*part))
-                    .unwrap_or(function.get()),
-            )
-        }
-        Expression::Index { value, index } => {
-            let part = if is_literal(index.get()) {
-                value
-            } else {
-                index
-            };
-            Some(part.get())
-        }
-        Expression::Slice { value, .. } => Some(value.get()),
-        Expression::Tuple(items) | Expression::List(items) => items.as_slice().last(),
+        Expression::Name(name) | Expression::Attribute { name, .. } => Some(name.position.token),
         _ => None,
     }
-}
-
-/// A token late in an expression; `None` if none is known.
-pub(crate) fn last_token(expression: &Expression) -> Option<usize> {
-    let mut part = expression;
-    for _ in 0..DEPTH {
-        match part {
-            Expression::Name(name) | Expression::Attribute { name, .. } => {
-                return Some(name.position.token);
-            }
-            Expression::ListComprehension { position, .. }
-            | Expression::DictComprehension { position, .. }
-            | Expression::Lambda { position, .. } => return Some(position.token),
-            _ => part = last_part(part)?,
-        }
-    }
-    None
 }

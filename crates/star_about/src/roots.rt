@@ -168,7 +168,7 @@ impl<'w, 'a, 't> Look<'w, 'a, 't> {
     pub(crate) fn at_root(&mut self, root: Root<'_>) -> Result<Option<Found>, AllocError> {
         match root {
             Root::Statement(statement, site) => self.at_statement(&site, statement),
-            Root::Answer(answer, site) => self.in_expression(&site, 0, answer),
+            Root::Answer(answer, site) => self.in_expression(&site, answer),
         }
     }
 }

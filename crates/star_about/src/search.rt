@@ -1,9 +1,10 @@
 //! Finds the part of an expression that is at fault.
 
 use crate::look::Look;
-use crate::parts::{inner_parts, parts_of, token_of};
+use crate::parts::{Part, Parts, inner_parts, parts_of, token_of};
 use star_eval::evaluate::evaluate;
-use star_found::about::Found;
+use star_found::about::{Found, Turn};
+use star_machine::content::Kind;
 use star_machine::fault::EvalError;
 use star_meaning::fault::FaultCode;
 use star_meaning::site::Site;
@@ -14,31 +15,63 @@ use std::alloc::AllocError;
 /// The number of levels that may be open in a second look.
 pub(crate) const LEVELS: u32 = 200;
 
-/// The search enters at most this many parts.
-const DEPTH: usize = 100;
+/// The search enters at most this many parts, and leaves as many.
+const MOST_PARTS: usize = 20_000;
 
-/// The result of evaluating parts in order.
+/// An expression that now stops as the run did, whose parts are evaluated in order.
 #[derive(Drop)]
-pub(crate) struct Ran<'p> {
-    /// The first part that stops as the run has.
-    pub failing: Option<&'p Expression>,
-    /// The values of the parts before it, or of all; `None` for a part that cannot be evaluated again.
+pub(crate) struct Visit<'p> {
+    pub site: Site,
+    pub expression: &'p Expression,
+    /// The length of the way to it.
+    depth: usize,
+    parts: Parts<'p>,
+    /// The values of the parts up to now; `None` for a part that cannot be evaluated again.
     pub values: Vec<Option<Value>>,
+    /// The place of the parts that are evaluated now: inside of a comprehension it is not that of the expression.
+    pub here: Site,
+    /// Whether the parts are all parts, and not only those that are evaluated first.
+    is_whole: bool,
+    /// The part that was entered last.
+    entered: Option<usize>,
 }
 
-impl<'p> Ran<'p> {
-    /// The value of the part at an index.
+impl<'p> Visit<'p> {
+    /// The value of the part with a number.
     pub(crate) fn value(&self, at: usize) -> Option<Value> {
         self.values.get(at).copied().flatten()
     }
+
+    /// The number of the only part without a value; `None` if there are several, or none.
+    fn unknown(&self) -> Option<usize> {
+        let mut found = None;
+        for (at, value) in self.values.iter().enumerate() {
+            if value.is_none() && found.is_some() {
+                return None;
+            }
+            if value.is_none() {
+                found = Some(at);
+            }
+        }
+        found
+    }
+
+    /// Enters the part with a number.
+    fn enter(&mut self, at: usize) -> Option<Part<'p>> {
+        self.entered = Some(at);
+        self.parts.get(at).copied()
+    }
 }
 
-/// The expression at fault: its place, and the values of its parts, which do not stop as the run did.
+/// The result of evaluating the parts of an expression.
 #[derive(Drop)]
-pub(crate) struct Culprit<'p> {
-    pub site: Site,
-    pub expression: &'p Expression,
-    pub ran: Ran<'p>,
+enum Next<'p> {
+    /// This part stops as the run did.
+    Enter(Part<'p>, Site),
+    /// The fault is about this.
+    Found(Found),
+    /// It is not known what the fault in this expression is about, or it did not stop the run.
+    Leave,
 }
 
 /// Whether a part that now stops with `found` may be the one that stopped the run with `code`. A value that was being
@@ -48,43 +81,29 @@ fn is_same(code: FaultCode, found: FaultCode) -> bool {
 }
 
 impl<'w, 'a, 't> Look<'w, 'a, 't> {
-    /// Evaluates parts in order, up to the first that stops as the run has.
-    pub(crate) fn run<'p>(
+    /// The value of a part at a place, or whether it stops as the run did.
+    pub(crate) fn value_or_same(
         &mut self,
         site: &Site,
-        parts: &[&'p Expression],
-    ) -> Result<Ran<'p>, AllocError> {
-        let mut values = Vec::new(self.alloc);
-        for part in parts {
-            match evaluate(&mut self.machine, self.world, LEVELS, site, *part) {
-                Ok(value) => values.push(Some(value))?,
-                Err(EvalError::Memory) => return Err(AllocError),
-                Err(EvalError::Faulted { code, .. }) => {
-                    if is_same(self.fault.code, code) {
-                        return Ok(Ran {
-                            failing: Some(*part),
-                            values,
-                        });
-                    }
-                    values.push(None)?;
-                }
-            }
+        expression: &Expression,
+    ) -> Result<Result<Value, bool>, AllocError> {
+        match evaluate(&mut self.machine, self.world, LEVELS, site, expression) {
+            Ok(value) => Ok(Ok(value)),
+            Err(EvalError::Memory) => Err(AllocError),
+            Err(EvalError::Faulted { code, .. }) => Ok(Err(is_same(self.fault.code, code))),
         }
-        Ok(Ran {
-            failing: None,
-            values,
-        })
     }
 
     /// The place in the frame of a comprehension; `None` if its first iterable is not one, or its frame is not found.
-    pub(crate) fn inside(
-        &self,
+    fn inside(
+        &mut self,
         site: &Site,
         expression: &Expression,
-        ran: &Ran<'_>,
+        first: Option<Value>,
     ) -> Option<Site> {
-        let _count = self.count(ran.value(0)?)?;
+        let _count = self.count(first?)?;
         let block = token_of(expression)?.saturating_add(1);
+        self.frames = self.frames.checked_sub(1)?;
         let frame = self.last_frame(site.file, block)?;
         Some(Site {
             file: site.file,
@@ -93,77 +112,158 @@ impl<'w, 'a, 't> Look<'w, 'a, 't> {
         })
     }
 
-    /// A part of an expression that is evaluated after its first parts, with its place: the chosen part of a
-    /// conditional, or the part of a comprehension that stops as the run did.
-    fn deeper<'p>(
-        &mut self,
-        site: &Site,
-        expression: &'p Expression,
-        ran: &Ran<'p>,
-    ) -> Result<Option<(Site, &'p Expression)>, AllocError> {
+    /// Begins with an expression.
+    fn visit<'p>(&self, site: Site, expression: &'p Expression) -> Result<Visit<'p>, AllocError> {
+        Ok(Visit {
+            site,
+            expression,
+            depth: self.way.len(),
+            parts: parts_of(self.alloc, expression)?,
+            values: Vec::new(self.alloc),
+            here: site,
+            is_whole: false,
+            entered: None,
+        })
+    }
+
+    /// Adds the parts that are evaluated after the first ones: of a conditional the chosen one, of a comprehension those
+    /// in its own frame.
+    fn add_more<'p>(&mut self, visit: &mut Visit<'p>) -> Result<(), AllocError> {
+        visit.is_whole = true;
         if let Expression::Conditional {
             chosen,
             otherwise,
             ..
-        } = expression
+        } = visit.expression
         {
-            let Some(condition) = ran.value(0) else {
-                return Ok(None);
+            let Some(condition) = visit.value(0) else {
+                return Ok(());
             };
-            let is_true = self.machine.is_true(self.world.setting(), condition);
-            let part = if is_true { chosen } else { otherwise };
-            return Ok(Some((*site, part.get())));
+            let (turn, part) = if self.machine.is_true(self.world.setting(), condition) {
+                (Turn::Chosen, chosen)
+            } else {
+                (Turn::Otherwise, otherwise)
+            };
+            let expression = part.get();
+            return Ok(visit.parts.push(Part { turn, expression })?);
         }
-        let Some(inside) = self.inside(site, expression, ran) else {
-            return Ok(None);
-        };
-        let parts = inner_parts(self.alloc, expression)?;
-        let inner = self.run(&inside, parts.as_slice())?;
-        Ok(inner.failing.map(|part| (inside, part)))
+        let (site, first) = (visit.site, visit.value(0));
+        if let Some(inside) = self.inside(&site, visit.expression, first) {
+            visit.here = inside;
+            let parts = inner_parts(self.alloc, visit.expression)?;
+            visit.parts.extend_from_slice(parts.as_slice())?;
+        }
+        Ok(())
     }
 
-    /// The innermost expression that is at fault; `None` if it is nested too deeply.
-    fn culprit<'p>(
-        &mut self,
-        site: &Site,
-        expression: &'p Expression,
-    ) -> Result<Option<Culprit<'p>>, AllocError> {
-        let mut site = *site;
-        let mut expression = expression;
-        for _ in 0..DEPTH {
-            let parts = parts_of(self.alloc, expression)?;
-            let ran = self.run(&site, parts.as_slice())?;
-            if let Some(part) = ran.failing {
-                expression = part;
-                continue;
-            }
-            match self.deeper(&site, expression, &ran)? {
-                Some((inside, part)) => {
-                    site = inside;
-                    expression = part;
-                }
-                None => {
-                    return Ok(Some(Culprit {
-                        site,
-                        expression,
-                        ran,
-                    }));
+    /// Evaluates the parts of an expression that have not been evaluated, up to one that stops as the run did.
+    fn run<'p>(&mut self, visit: &mut Visit<'p>) -> Result<Option<Part<'p>>, AllocError> {
+        for at in visit.values.len()..visit.parts.len() {
+            let Some(part) = visit.parts.get(at).copied() else {
+                break;
+            };
+            match self.value_or_same(&visit.here, part.expression)? {
+                Ok(value) => visit.values.push(Some(value))?,
+                Err(is_same) => {
+                    visit.values.push(None)?;
+                    if is_same {
+                        return Ok(visit.enter(at));
+                    }
                 }
             }
         }
         Ok(None)
     }
 
-    /// Reports the values that a fault in an expression is about. `token` is a token at the expression or before it.
+    /// Whether an expression whose parts have values does not stop so, whatever these are.
+    fn never_stops(&self, visit: &Visit<'_>) -> bool {
+        let is_lack = matches!(self.fault.code, FaultCode::Key | FaultCode::Index);
+        match visit.expression {
+            Expression::Tuple(_)
+            | Expression::List(_)
+            | Expression::And { .. }
+            | Expression::Or { .. } => true,
+            Expression::Unary { .. } | Expression::Binary { .. } | Expression::Compare { .. } => {
+                is_lack
+            }
+            Expression::Call { .. } => match visit.value(0) {
+                Some(callee) => is_lack && matches!(self.kind(callee), Kind::BuiltInFunction(_)),
+                None => false,
+            },
+            _ => false,
+        }
+    }
+
+    /// The part that must have stopped the run, since the expression cannot and all other parts have values: such as a
+    /// call that changes a list, and is refused now since the store is frozen.
+    fn left_over<'p>(&self, visit: &mut Visit<'p>) -> Option<Part<'p>> {
+        let at = visit.unknown()?;
+        if visit.entered == Some(at) || !self.never_stops(visit) {
+            return None;
+        }
+        visit.enter(at)
+    }
+
+    /// Goes on with an expression.
+    fn next<'p>(&mut self, visit: &mut Visit<'p>) -> Result<Next<'p>, AllocError> {
+        if let Some(part) = self.run(visit)? {
+            return Ok(Next::Enter(part, visit.here));
+        }
+        if !visit.is_whole {
+            self.add_more(visit)?;
+            if let Some(part) = self.run(visit)? {
+                return Ok(Next::Enter(part, visit.here));
+            }
+        }
+        if let Some(found) = self.about(visit)? {
+            return Ok(Next::Found(found));
+        }
+        match self.left_over(visit) {
+            Some(part) => Ok(Next::Enter(part, visit.here)),
+            None => Ok(Next::Leave),
+        }
+    }
+
+    /// Sets the way to this one, to which a turn may be added.
+    fn go(&mut self, depth: usize, turn: Option<Turn>) -> Result<(), AllocError> {
+        self.way.truncate(depth);
+        match turn {
+            Some(turn) => Ok(self.way.push(turn)?),
+            None => Ok(()),
+        }
+    }
+
+    /// Reports the values that a fault in an expression is about, to which the way of the search leads. It enters the
+    /// parts that stop as the run did, and leaves those that did not stop the run after all. A value that was being
+    /// iterated is told only if no other part can have been the one.
     pub(crate) fn in_expression(
         &mut self,
         site: &Site,
-        token: usize,
         expression: &Expression,
     ) -> Result<Option<Found>, AllocError> {
-        match self.culprit(site, expression)? {
-            Some(culprit) => self.about(token, &culprit),
-            None => Ok(None),
+        let mut open = Vec::new(self.alloc);
+        open.push(self.visit(*site, expression)?)?;
+        let mut known = None;
+        for _ in 0..MOST_PARTS {
+            let Some(mut visit) = open.pop() else {
+                break;
+            };
+            self.go(visit.depth, None)?;
+            match self.next(&mut visit)? {
+                Next::Enter(part, here) => {
+                    self.go(visit.depth, Some(part.turn))?;
+                    let inner = self.visit(here, part.expression)?;
+                    open.push(visit)?;
+                    open.push(inner)?;
+                }
+                Next::Found(found) if self.fault.code != FaultCode::Iterating => {
+                    return Ok(Some(found));
+                }
+                Next::Found(_) if known.is_some() => return Ok(None),
+                Next::Found(found) => known = Some(found),
+                Next::Leave => {}
+            }
         }
+        Ok(known)
     }
 }

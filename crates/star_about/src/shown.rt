@@ -32,7 +32,7 @@ fn cut(alloc: Global, text: &str) -> Result<Text, AllocError> {
 }
 
 /// The type of a value of a kind.
-fn type_of(kind: Kind) -> Type {
+pub(crate) fn type_of(kind: Kind) -> Type {
     match kind {
         Kind::Nothing => Type::Nothing,
         Kind::Truth(_) => Type::Bool,
@@ -44,6 +44,7 @@ fn type_of(kind: Kind) -> Type {
         Kind::List => Type::List,
         Kind::Dict => Type::Dict,
         Kind::Function => Type::Function,
+        Kind::Struct => Type::Struct,
         Kind::Frame | Kind::Nowhere => Type::Other,
     }
 }

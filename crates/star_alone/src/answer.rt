@@ -115,7 +115,7 @@ fn input_of(
 /// that are wanted. `mode` has the steps that each body may take, from 1 to 100,000,000, and the dialect. All is done by
 /// the caller's own thread, and all memory but the text's is back when it returns.
 ///
-/// The rules are in `docs/REPORT.md`: what a bundle is, the refusals in their order, and the report. `TooBig` if there
+/// The rules are in `docs/USING.md`: what a bundle is, the refusals in their order, and the report. `TooBig` if there
 /// are more than 268,435,456 bytes, before all other refusals.
 pub fn answer_alone(
     alloc: Global,

@@ -1,13 +1,14 @@
 //! The reading of files by the caller's own thread.
 
 ghost use Rattle.std.specs.Prelude.{◌≡◌, ◌+◌, ◌<◌, All, IfOk, IfSome, None, OnOk, Some, length};
-ghost use Rattle.std.specs.Option.{option_copied};
 ghost use Rattle.star_label.specs.Files.{text_at};
 ghost use Rattle.star_plan.specs.Reading.{IsPrelude};
+ghost use Rattle.star_scope.specs.Resolve.{outside_seen};
 ghost use Rattle.star_reading.specs.Found.{HasFound, HasFoundWith, IsReadOf, IsRowOf, Within, left_of};
 ghost use Rattle.star_reading.specs.Parsed.{IsParsed};
 ghost use Rattle.star_reading.specs.Readings.{IsPlaceable, IsReadAs};
 
+use star_dialect::Dialect;
 use star_label::files::Files as Labels;
 use star_lex::token::SyntaxFault;
 use star_outcome::shelf::Shelf;
@@ -112,6 +113,7 @@ struct Reader<'s, 't> {
     files: &'s Labels,
     trees: &'t Shelf<Tree>,
     prelude: Option<&'s Prelude<'t>>,
+    dialect: Dialect,
     roots: &'s [usize],
 }
 
@@ -120,10 +122,10 @@ impl<'s, 't> Reader<'s, 't> {
     fn read(&self, n: usize) -> Result<Read<'t>, ReadError>
         requires file { n < length self.now.files.now }
         requires cells { length self.now.trees.now ≡ length self.now.files.now + 1 }
-        ensures { IfOk result (IsReadAs self.now.files.now (option_copied self.now.prelude) n) }
+        ensures { IfOk result (IsReadAs self.now.files.now (outside_seen self.now.prelude self.now.dialect) n) }
     {
         match parsed_at(self.alloc, self.files, self.trees, n, n)? {
-            Ok(tree) => Ok(resolved(self.alloc, self.files, self.prelude, n, tree)?),
+            Ok(tree) => Ok(resolved(self.alloc, self.files, self.prelude, self.dialect, n, tree)?),
             Err(fault) => match of_syntax(fault) {
                 Some(fault) => Ok(Read::Fault(fault)),
                 None => unreachable!(),
@@ -136,10 +138,12 @@ impl<'s, 't> Reader<'s, 't> {
         requires file { n < length self.now.files.now }
         requires cells { length self.now.trees.now ≡ length self.now.files.now + 1 }
         requires prelude { IfSome self.now.prelude (λ p. p.now.file < length self.now.files.now) }
-        requires found { HasFoundWith self.now.files.now (option_copied self.now.prelude) self.now.roots.now found.old
+        requires found { HasFoundWith self.now.files.now (outside_seen self.now.prelude self.now.dialect)
+            self.now.roots.now found.old
             n }
         ensures found { OnOk result
-            (HasFound self.now.files.now (option_copied self.now.prelude) self.now.roots.now found.new) }
+            (HasFound self.now.files.now (outside_seen self.now.prelude self.now.dialect) self.now.roots.now
+            found.new) }
         ensures left { OnOk result (left_of found.new.marks.items found.new.todo.items
             ≡ left_of found.old.marks.items found.old.todo.items) }
     {
@@ -157,7 +161,7 @@ impl<'s, 't> Reader<'s, 't> {
         requires roots { Within self.now.files.now self.now.roots.now }
         requires cells { length self.now.trees.now ≡ length self.now.files.now + 1 }
         requires prelude { IfSome self.now.prelude (λ p. p.now.file < length self.now.files.now) }
-        ensures { IfOk result (λ row. IsRowOf self.now.files.now (option_copied self.now.prelude)
+        ensures { IfOk result (λ row. IsRowOf self.now.files.now (outside_seen self.now.prelude self.now.dialect)
             self.now.roots.now row.items) }
     {
         let mut found = Found::from_roots(self.alloc, self.files, self.roots)?;
@@ -175,41 +179,44 @@ fn read_by<'s, 't>(
     files: &'s Labels,
     trees: &'t Shelf<Tree>,
     prelude: Option<&'s Prelude<'t>>,
+    dialect: Dialect,
     roots: &'s [usize],
 ) -> Result<Vec<Option<Read<'t>>>, ReadError>
     requires roots { Within files.now roots.now }
     requires cells { length trees.now ≡ length files.now + 1 }
     requires prelude { IfSome prelude (λ p. p.now.file < length files.now) }
-    ensures { IfOk result (λ row. IsRowOf files.now (option_copied prelude.entry) roots.now row.items) }
+    ensures { IfOk result (λ row. IsRowOf files.now (outside_seen prelude.entry dialect) roots.now row.items) }
 {
     let reader = Reader {
         alloc,
         files,
         trees,
         prelude,
+        dialect,
         roots,
     };
     reader.read_all()
 }
 
-/// Reads all files that the roots reach, one after another: of each its program, or its static fault. The trees have
-/// cells of their own (`tree_cells`). `Memory` where a growth is refused, `Unpublished` where a cell has a tree
-/// already.
+/// Reads all files that the roots reach, one after another: of each its program in a dialect, or its static fault. The
+/// trees have cells of their own (`tree_cells`). `Memory` where a growth is refused, `Unpublished` where a cell has a
+/// tree already.
 pub fn read_alone<'t>(
     alloc: Global,
     files: &Labels,
     trees: &'t Shelf<Tree>,
     roots: &[usize],
     prelude: Option<usize>,
+    dialect: Dialect,
 ) -> Result<Reads<'t>, ReadError>
     requires roots { Within files.now roots.now }
     requires cells { length trees.now ≡ length files.now + 1 }
     requires prelude { IfSome prelude (λ n. n < length files.now) }
-    ensures read { IfOk result (λ reads. IsReadOf files.now roots.now prelude reads.all.items) }
+    ensures read { IfOk result (λ reads. IsReadOf files.now roots.now prelude dialect reads.all.items) }
     ensures placeable { IfOk result (λ reads. All IsPlaceable reads.all.items) }
 {
     let block = block_of(alloc, files, trees, prelude)?;
-    let all = read_by(alloc, files, trees, block.as_ref(), roots)?;
+    let all = read_by(alloc, files, trees, block.as_ref(), dialect, roots)?;
     let others = Vec::new(alloc);
     Ok(Reads { all, others })
 }

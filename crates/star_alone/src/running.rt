@@ -120,7 +120,7 @@ fn run_over<'s, 'r, 't>(
     requires prelude { IfSome options.prelude (λ p. p < length files.now) }
     requires steps { (1 ≤ options.mode.steps) × (options.mode.steps ≤ 100000000) }
     requires cells { length modules.now ≡ length files.now }
-    requires read { IsReadOf files.now options.roots.now options.prelude reads.now.all.items }
+    requires read { IsReadOf files.now options.roots.now options.prelude options.mode.dialect reads.now.all.items }
     requires placeable { All IsPlaceable reads.now.all.items }
     ensures kept { IfOk result (λ c. AllKept modules.now c.kept.items) }
     ensures modules { let o = options.entry in
@@ -159,7 +159,8 @@ pub fn run_alone<'t>(
     requires roots { Within files.now options.roots.now }
     requires prelude { IfSome options.prelude (λ n. n < length files.now) }
     requires steps { (1 ≤ options.mode.steps) × (options.mode.steps ≤ 100000000) }
-    ensures read { IfOk result (λ _. IsReadOf files.now options.entry.roots.now options.entry.prelude reads.new.all.items) }
+    ensures read { let o = options.entry in
+        IfOk result (λ _. IsReadOf files.now o.roots.now o.prelude o.mode.dialect reads.new.all.items) }
     ensures files { IfOk result (λ r. length r.cells ≡ length files.now) }
     ensures modules { let o = options.entry in
         IfOk result (λ r. AreModulesOf files.now o.roots.now o.prelude o.mode r.kept) }
@@ -170,7 +171,14 @@ pub fn run_alone<'t>(
         IfOk result (λ r. AreRefusalsOf files.now o.roots.now o.prelude o.mode r.refused) }
 {
     let modules = Shelf::new(alloc, files.len())?;
-    *reads = match read_alone(alloc, files, trees, options.roots, options.prelude) {
+    *reads = match read_alone(
+        alloc,
+        files,
+        trees,
+        options.roots,
+        options.prelude,
+        options.mode.dialect,
+    ) {
         Ok(reads) => reads,
         Err(error) => return Err(unread(error)),
     };

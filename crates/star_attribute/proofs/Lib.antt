@@ -1,2 +1,3 @@
 mod Braces
+mod Once
 mod Places

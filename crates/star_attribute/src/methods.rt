@@ -1,22 +1,18 @@
-//! `x.m`: the methods of each type, by name; and the `match` that calls a bound method.
+//! The `match` that calls a bound method.
 
-ghost use Rattle.std.specs.Prelude.{◌≡◌, None, codes, nat_eq};
-ghost use Rattle.std.specs.List.{ends_with, find, starts_with};
+ghost use Rattle.std.specs.Prelude.{codes, nat_eq};
+ghost use Rattle.std.specs.List.{ends_with, starts_with};
 ghost use Rattle.star_machine.specs.Refines.{Refines};
 ghost use Rattle.star_machine.specs.Kinds.{bytes_of};
 ghost use Rattle.star_meaning.specs.Methods as spec;
 ghost use Rattle.star_meaning.specs.TableMethods.{call_wider};
 ghost use Rattle.star_meaning.specs.TextMethods.{call_edge, call_split};
 ghost use Rattle.star_meaning.specs.Run.{and_then};
-ghost use Rattle.star_machine.specs.Shown.{shown};
-ghost use Rattle.star_meaning.specs.Values.{content, type_name, want_text};
-ghost use Rattle.star_outline.specs.Names.{same_name};
-ghost use Rattle.star_store.specs.Names.{method_name};
+ghost use Rattle.star_meaning.specs.Values.{content, want_text};
 
 use crate::formats::call_format;
 use star_dialect::Dialect;
 use star_machine::call::Call;
-use star_machine::content::Content;
 use star_machine::fault::{EvalError, fault_at};
 use star_machine::machine::Machine;
 use star_machine::setting::Setting;
@@ -32,112 +28,7 @@ use star_method::split::{call_replace, call_split};
 use star_method::table::{call_in_table, call_named};
 use star_method::texts::{Case, Edge, call_case, call_edge, call_find, call_join, call_strip};
 use star_store::names::Method;
-use star_store::values::{Cell, Value};
-use star_strings::table::StringMethod;
-
-/// The methods of lists.
-const LIST_METHODS: [Method; 7] = [
-    Method::ListAppend,
-    Method::ListClear,
-    Method::ListExtend,
-    Method::ListIndex,
-    Method::ListInsert,
-    Method::ListPop,
-    Method::ListRemove,
-];
-
-/// The methods of dictionaries.
-const DICT_METHODS: [Method; 9] = [
-    Method::DictClear,
-    Method::DictGet,
-    Method::DictItems,
-    Method::DictKeys,
-    Method::DictPop,
-    Method::DictPopitem,
-    Method::DictSetdefault,
-    Method::DictUpdate,
-    Method::DictValues,
-];
-
-/// The methods of strings.
-const TEXT_METHODS: [Method; 12] = [
-    Method::StringEndswith,
-    Method::StringFind,
-    Method::StringFormat,
-    Method::StringJoin,
-    Method::StringLower,
-    Method::StringLstrip,
-    Method::StringReplace,
-    Method::StringRstrip,
-    Method::StringSplit,
-    Method::StringStartswith,
-    Method::StringStrip,
-    Method::StringUpper,
-];
-
-/// The first of some methods with a name.
-fn named(methods: &[Method], name: &str) -> Option<Method>
-    ensures { result ≡ find (λ m. same_name (method_name m) name.now) methods.now }
-{
-    for method in methods {
-        if method.name() == name {
-            return Some(*method);
-        }
-    }
-    None
-}
-
-/// The method of the core with a name that a list, a dictionary or a string has.
-fn core_method_of(content: Content, name: &str) -> Option<Method>
-    ensures { result ≡ spec.core_method_of (type_name (shown content.entry)) name.now }
-{
-    match content {
-        Content::Held(Cell::List(_)) => named(&LIST_METHODS, name),
-        Content::Held(Cell::Dict(_)) => named(&DICT_METHODS, name),
-        Content::Held(Cell::Text(_)) => named(&TEXT_METHODS, name),
-        _ => None,
-    }
-}
-
-/// The method of the table with a name, if the value is a string and the dialect is the extended one.
-fn in_table(dialect: Dialect, content: Content, name: &str) -> Option<Method>
-    ensures { result ≡ spec.or_in_table dialect (type_name (shown content.entry)) name.now None }
-{
-    match (dialect, content) {
-        (Dialect::Extended, Content::Held(Cell::Text(_))) => match StringMethod::named(name) {
-            Some(method) => Some(Method::OfString(method)),
-            None => None,
-        },
-        _ => None,
-    }
-}
-
-/// The method with a name that a value has in a dialect.
-fn method_of(dialect: Dialect, content: Content, name: &str) -> Option<Method>
-    ensures { result ≡ spec.method_of dialect (type_name (shown content.entry)) name.now }
-{
-    match core_method_of(content, name) {
-        Some(method) => Some(method),
-        None => in_table(dialect, content, name),
-    }
-}
-
-/// `x.m`: 1 is paid, then a new bound method. `BadType` if the value has no method with this name.
-#[tactic(auto, unfolding(star_meaning::specs::Methods::attribute))]
-pub fn attribute(
-    machine: &mut Machine,
-    setting: &Setting,
-    line: usize,
-    value: Value,
-    name: &str,
-) -> Result<Value, EvalError>
-    ensures { Refines (spec.attribute setting.now line value name.now machine.old) result machine.new }
-{
-    let Some(method) = method_of(setting.dialect(), machine.content(setting, value), name) else {
-        return Err(fault_at(FaultCode::BadType, line));
-    };
-    machine.build(line, 1, Cell::Bound(method, value))
-}
+use star_store::values::Value;
 
 /// `startswith`: the core's, or the table's in the extended language.
 fn call_starts(machine: &mut Machine, text: Value, call: &Call) -> Result<Value, EvalError>

@@ -5,18 +5,14 @@ use Rattle.star_store.specs.declared.names.Method.TheVariants as method
 use Rattle.star_meaning.specs.Program.{Setting}
 use Rattle.star_meaning.specs.declared.given.Arguments.{Arguments}
 use Rattle.std.proofs.Common.{ℕ, List}
-use Rattle.star_meaning.specs.Methods.{attribute, on_text, call_method}
+use Rattle.star_meaning.specs.Methods.{on_text, call_method}
 use Rattle.star_bound.proofs.Within.{Bounded, Credited}
 use Rattle.star_bound.proofs.Bounds.{bounded, VariablesBounded, AllBounded, Spares, bounded_spared, credited_seeing, credited_make_frame}
-use Rattle.star_bound.proofs.BoundValues.{bounded-with_content, bounded-want_text}
+use Rattle.star_bound.proofs.BoundValues.{bounded-want_text}
 use Rattle.star_bound.proofs.BoundListMethods.{bounded-call_append, bounded-call_clear, bounded-call_extend, bounded-call_index, bounded-call_insert, bounded-call_pop, bounded-call_remove}
 use Rattle.star_bound.proofs.BoundDictMethods.{bounded-call_get, bounded-call_items, bounded-call_keys, bounded-call_values, bounded-call_dict_pop, bounded-call_popitem, bounded-call_setdefault, bounded-call_update}
 use Rattle.star_bound.proofs.BoundTableMethods.{bounded-call_in_table, bounded-call_wider}
 use Rattle.star_bound.proofs.BoundTextMethods.{bounded-call_edge, bounded-call_find, bounded-call_join, bounded-call_split, bounded-call_strip, bounded-call_case, bounded-call_replace, bounded-call_format}
-
-pub bounded-attribute : (w : Setting) (line : ℕ) (x : Value) (name : List ℕ) → Bounded (attribute w line x name)
-unfolding attribute
-bounded-attribute w line x name = search (bounded, bounded-with_content) depth 14
 
 pub bounded-on_text : (w : Setting) (levels : ℕ) (line : ℕ) (a3 : Method) (t : List ℕ) (g : Arguments) → Bounded (on_text w levels line a3 t g)
 bounded-on_text w levels line method.StringEndswith t g = bounded-call_wider w line _ t g _ (search (bounded, bounded-call_edge) depth 14)

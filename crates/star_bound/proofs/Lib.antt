@@ -5,6 +5,7 @@ pub mod Bounds
 pub mod BoundValues
 pub mod BoundSubscript
 pub mod BoundArguments
+pub mod BoundAttributes
 pub mod BoundPairs
 pub mod BoundListMethods
 pub mod BoundDictMethods
@@ -30,6 +31,7 @@ pub mod Narrow
 pub mod NarrowValues
 pub mod NarrowSubscript
 pub mod NarrowArguments
+pub mod NarrowAttributes
 pub mod NarrowPairs
 pub mod NarrowListMethods
 pub mod NarrowDictMethods

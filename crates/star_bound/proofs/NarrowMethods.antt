@@ -5,17 +5,13 @@ use Rattle.star_store.specs.declared.names.Method.TheVariants as method
 use Rattle.star_meaning.specs.Program.{Setting}
 use Rattle.star_meaning.specs.declared.given.Arguments.{Arguments}
 use Rattle.std.proofs.Common.{ℕ, List}
-use Rattle.star_meaning.specs.Methods.{attribute, on_text, call_method}
+use Rattle.star_meaning.specs.Methods.{on_text, call_method}
 use Rattle.star_bound.proofs.Narrow.{narrow, Narrows, VariablesNarrow, AllNarrow, narrow_make_frame}
-use Rattle.star_bound.proofs.NarrowValues.{narrow-with_content, narrow-want_text}
+use Rattle.star_bound.proofs.NarrowValues.{narrow-want_text}
 use Rattle.star_bound.proofs.NarrowListMethods.{narrow-call_append, narrow-call_clear, narrow-call_extend, narrow-call_index, narrow-call_insert, narrow-call_pop, narrow-call_remove}
 use Rattle.star_bound.proofs.NarrowDictMethods.{narrow-call_get, narrow-call_items, narrow-call_keys, narrow-call_values, narrow-call_dict_pop, narrow-call_popitem, narrow-call_setdefault, narrow-call_update}
 use Rattle.star_bound.proofs.NarrowTableMethods.{narrow-call_in_table, narrow-call_wider}
 use Rattle.star_bound.proofs.NarrowTextMethods.{narrow-call_edge, narrow-call_find, narrow-call_join, narrow-call_split, narrow-call_strip, narrow-call_case, narrow-call_replace, narrow-call_format}
-
-pub narrow-attribute : {most : ℕ} → (w : Setting) (line : ℕ) (x : Value) (name : List ℕ) → Narrows most (attribute w line x name)
-unfolding attribute
-narrow-attribute w line x name = search (narrow, narrow-with_content) depth 14
 
 pub narrow-on_text : {most : ℕ} → (w : Setting) (levels : ℕ) (line : ℕ) (a3 : Method) (t : List ℕ) (g : Arguments) → Narrows most (on_text w levels line a3 t g)
 narrow-on_text w levels line method.StringEndswith t g = narrow-call_wider w line _ t g _ (search (narrow, narrow-call_edge) depth 14)

@@ -3,13 +3,16 @@
 ghost use Rattle.star_meaning.specs.BuiltIns.{call_built_in};
 ghost use Rattle.star_machine.specs.Refines.{Refines};
 
+use crate::attributes::{call_dir, call_getattr, call_hasattr};
 use crate::best::{Best, call_best};
+use crate::characters::{call_chr, call_ord};
 use crate::dicts::call_dict;
 use crate::numbers::{call_abs, call_int, call_len};
 use crate::print::{Form, call_fail, call_print, call_text, call_type};
 use crate::ranges::call_range;
 use crate::rows::{Row, call_enumerate, call_reversed, call_row, call_zip};
 use crate::sorted::call_sorted;
+use crate::structs::call_struct;
 use crate::truths::{call_all, call_any, call_bool};
 use star_machine::call::Call;
 use star_machine::fault::EvalError;
@@ -47,6 +50,12 @@ fn run_built_in(machine: &mut Machine, built_in: BuiltIn, call: &Call) -> Result
         BuiltIn::Tuple => call_row(machine, Row::Tuple, call),
         BuiltIn::Type => call_type(machine, call),
         BuiltIn::Zip => call_zip(machine, call),
+        BuiltIn::Chr => call_chr(machine, call),
+        BuiltIn::Dir => call_dir(machine, call),
+        BuiltIn::Getattr => call_getattr(machine, call),
+        BuiltIn::Hasattr => call_hasattr(machine, call),
+        BuiltIn::Ord => call_ord(machine, call),
+        BuiltIn::Struct => call_struct(machine, call),
     }
 }
 

@@ -11,8 +11,10 @@
 //! `star_meaning/specs/BuiltIns`, the fault, the payments and the printed lines included.
 #![tactic(auto)]
 
+pub mod attributes;
 pub mod best;
 pub mod calls;
+pub mod characters;
 pub mod dicts;
 mod ints;
 pub mod numbers;
@@ -21,4 +23,5 @@ pub mod ranges;
 pub mod rows;
 pub mod sorted;
 mod spelling;
+pub mod structs;
 pub mod truths;

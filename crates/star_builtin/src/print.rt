@@ -98,6 +98,7 @@ fn type_name(content: Content) -> &'static str
         Content::Held(Cell::Func(_)) => "function",
         Content::Held(Cell::Frame(_)) => "",
         Content::Held(Cell::Bound(_, _)) => "builtin_function_or_method",
+        Content::Held(Cell::Struct(_)) => "struct",
         Content::Nowhere => "",
     }
 }

@@ -7,6 +7,7 @@
 ghost use Rattle.std.specs.Prelude.{◌≡◌, IfOk, map, true};
 ghost use Rattle.std.specs.List.{list_all};
 ghost use Rattle.star_meaning.specs.BuiltIns as spec;
+ghost use Rattle.star_meaning.specs.Sorting as sorting;
 ghost use Rattle.star_machine.specs.Refines.{Refines};
 ghost use Rattle.star_meaning.specs.Values.{content};
 ghost use Rattle.star_builtin.specs.Orders.{by_contents, int_in};
@@ -93,7 +94,7 @@ fn in_order(
 ) -> Result<Vec<Value>, AllocError>
     requires { spec.can_sort (map (content setting.now machine.now) values.now) ≡ true }
     ensures { IfOk result (λ r. r.items
-        ≡ spec.in_order (λ x y. spec.is_before (content setting.now machine.now x)
+        ≡ sorting.in_order (λ x y. spec.is_before (content setting.now machine.now x)
         (content setting.now machine.now y)) values.now) }
 {
     let mut items = Vec::from_slice(machine.alloc(), values)?;

@@ -7,7 +7,7 @@ ghost use Rattle.star_bundle.specs.declared.error.ServeError.TheVariants.{Memory
 use std::alloc::{AllocError, AllocFailed};
 use thiserror::Error;
 
-/// Why there is no report, by `docs/REPORT.md`, "Refusals".
+/// Why there is no report, by `docs/USING.md`, "Refusals".
 #[derive(Clone, Copy, Debug, PartialEq, Eq, Error)]
 #[error("{text}", text = self.text())]
 pub enum ServeError {
@@ -87,7 +87,7 @@ impl<T: Drop> From<AllocFailed<T>> for ServeError {
     }
 }
 
-/// The exit status of the program, by `docs/REPORT.md`, "Statuses".
+/// The exit status of the program, by `docs/USING.md`, "Statuses".
 pub fn status(outcome: &Result<bool, ServeError>) -> u8
     ensures { result ≡ status_of outcome.now }
 {

@@ -1,6 +1,6 @@
 //! The verdicts on files before any of them runs: which have a static fault, which fail since a file that their loads
 //! lead to has one or since their loads lead in a circle, and which have nothing against them. Nothing is run
-//! (`docs/REPORT.md`).
+//! (`docs/USING.md`).
 //!
 //! - `check::check` reads the files that roots reach and makes the text. Begin there.
 //! - `judge::judge` gives the verdict on each (`Judged`, in `verdict`), by its reading: `star_sound` finds the files

@@ -16,18 +16,19 @@ use Rattle.star_store.specs.declared.values.Value.{Value}
 use Rattle.star_store.specs.declared.values.Value.TheVariants as value
 use Rattle.star_store.specs.declared.values.Cell.{Cell}
 use Rattle.star_store.specs.declared.values.Cell.TheVariants as cell
-use Rattle.star_store.specs.Equal.{same, same_cells, same_entries, same_found, same_items, same_pairs, same_pair, same_place, same_entry, same_values}
+use Rattle.star_store.specs.Equal.{same, same_cells, same_entries, same_fields, same_found, same_items, same_pairs, same_pair, same_place, same_entry, same_values}
+use Rattle.star_store.specs.Fields.{names_of, same_names, values_of}
 use Rattle.star_store.specs.Key.{key_levels, place_of, same_key, same_key_cell, value_of}
 use Rattle.star_store.specs.Spend.{Enough, Lacks, Spend, Spent, all_places, answer, spend_then, visited}
 use Rattle.star_data.specs.Counts.{member_count}
-use Rattle.star_data.specs.Data.{cell_data, cell_of, data_of, entries_data, items_data, key_in, text_in, value_data}
+use Rattle.star_data.specs.Data.{cell_data, cell_of, data_of, entries_data, fields_data, items_data, key_in, text_in, utf8_of, value_data}
 use Rattle.star_data.specs.Laws.{EqualAreSame, KeysStandOnce}
 use Rattle.star_data.proofs.Ints.{int_is}
 use Rattle.star_data.proofs.Rising.{Rises, count_new, count_put, equal_bytes, rises_put, same_members}
 use Rattle.serde_json.proofs.Views.{get_member-put, get_member-put_other}
 use Rattle.star_data.proofs.Options.{chained, mapped}
 use Rattle.star_data.proofs.Parts.{entry-data, is_text}
-use Rattle.star_data.proofs.Strings.{key_is, string_is}
+use Rattle.star_data.proofs.Strings.{key_is, string_is, utf8_is}
 
 -- ---- bytes
 
@@ -42,6 +43,14 @@ same_bytes (x ∷ s) [] e = absurd (let no : ⊥ = cc in no)
 same_bytes (x ∷ s) (y ∷ t) e =
     let h = both (nat_eq x y) (pointwise nat_eq s t) e in
     ap (λ z. z ∷ s) (eqb-true x y h.0) ∙ ap (λ zs. y ∷ zs) (same_bytes s t h.1)
+
+same_rows : (ns ms : List (List ℕ)) → same_names ns ms ≡ true → ns ≡ ms
+same_rows [] [] e = refl
+same_rows [] (m ∷ ms) e = absurd (let no : ⊥ = cc in no)
+same_rows (n ∷ ns) [] e = absurd (let no : ⊥ = cc in no)
+same_rows (n ∷ ns) (m ∷ ms) e =
+    let h = both (pointwise nat_eq n m) (same_names ns ms) e in
+    ap (λ z. z ∷ ns) (same_bytes n m h.0) ∙ ap (λ zs. m ∷ zs) (same_rows ns ms h.1)
 
 own_number : (n : ℕ) → nat_eq n n ≡ true
 own_number n = grind arith
@@ -105,6 +114,33 @@ items_same a b (x ∷ xs) (y ∷ ys) ds es f g l h =
     let rest = mapped (item two.0) (items_data b ys) es two.2 in
     let tails : more.0 ≡ rest.0 = items_same a b xs ys more.0 rest.0 more.1 rest.1 (omega (arith, l)) (λ j. h (suc j)) in
     sym more.2 ∙ (ap (λ z. item z more.0) (h zero x y one.0 two.0 refl refl one.1 two.1) ∙ (ap (item two.0) tails ∙ rest.2))
+
+-- the members of fields with the same names
+fields_same : (a b : Value → Option Data) (fs gs : List (List ℕ × Value)) (ms ns : Members) → fields_data a fs ≡ Some ms → fields_data b gs ≡ Some ns → names_of fs ≡ names_of gs
+    → ((j : ℕ) (x y : Value) (d e : Data) → slice_get (values_of fs) j ≡ Some x → slice_get (values_of gs) j ≡ Some y → a x ≡ Some d → b y ≡ Some e → d ≡ e) → ms ≡ ns
+fields_same a b [] [] ms ns f g l h = cc
+fields_same a b [] (y ∷ gs) ms ns f g l h = absurd (let no : ⊥ = cc in no)
+fields_same a b (x ∷ fs) [] ms ns f g l h = absurd (let no : ⊥ = cc in no)
+fields_same a b (x ∷ fs) (y ∷ gs) ms ns f g l h =
+    let k = chained (λ k. option_and_then (λ d. option_map (put k d) (fields_data a fs)) (a x.1)) (utf8_of x.0) ms f in
+    let d = chained (λ d. option_map (put k.0 d) (fields_data a fs)) (a x.1) ms k.2 in
+    let more = mapped (put k.0 d.0) (fields_data a fs) ms d.2 in
+    let m = chained (λ k. option_and_then (λ d. option_map (put k d) (fields_data b gs)) (b y.1)) (utf8_of y.0) ns g in
+    let e = chained (λ d. option_map (put m.0 d) (fields_data b gs)) (b y.1) ns m.2 in
+    let rest = mapped (put m.0 e.0) (fields_data b gs) ns e.2 in
+    let first : x.0 ≡ y.0 = cc in
+    let later : names_of fs ≡ names_of gs = cc in
+    let keys : k.0 ≡ m.0 = sym (utf8_is x.0 k.0 k.1).0 ∙ (first ∙ (utf8_is y.0 m.0 m.1).0) in
+    let tails : more.0 ≡ rest.0 = fields_same a b fs gs more.0 rest.0 more.1 rest.1 later (λ j. h (suc j)) in
+    sym more.2 ∙ (ap (λ z. put z d.0 more.0) keys ∙ (ap (λ z. put m.0 z more.0) (h zero x.1 y.1 d.0 e.0 refl refl d.1 e.1) ∙ (ap (put m.0 e.0) tails ∙ rest.2)))
+
+pub sorted_fields : (a : Value → Option Data) (fs : List (List ℕ × Value)) (ms : Members) → fields_data a fs ≡ Some ms → Rises ms
+sorted_fields a [] ms f = let e : no_members ≡ ms = cc in subst Rises e tt
+sorted_fields a (x ∷ fs) ms f =
+    let k = chained (λ k. option_and_then (λ d. option_map (put k d) (fields_data a fs)) (a x.1)) (utf8_of x.0) ms f in
+    let d = chained (λ d. option_map (put k.0 d) (fields_data a fs)) (a x.1) ms k.2 in
+    let rest = mapped (put k.0 d.0) (fields_data a fs) ms d.2 in
+    subst Rises rest.2 (rises_put k.0 d.0 rest.0 (sorted_fields a fs rest.0 rest.1))
 
 -- the entries are those of a row of members, each put before the members of the later ones
 record Entered (look : Value → Option Cell) (a : Value → Option Data) (x : Value × Value) (xs : List (Value × Value)) (ms : Members) : Type 0 where
@@ -251,6 +287,20 @@ listed f a b h xs ys n left is d e p q =
     let all : ds.0 ≡ es.0 = items_same a b xs ys ds.0 es.0 ds.1 es.1 rows.0 (λ j x y u v at there. h x y u v (subst Passes (pair_is f xs ys j x y at there) (rows.1 j (within xs j x at)))) in
     sym ds.2 ∙ (ap array all ∙ es.2)
 
+fielded : (f : Value → Value → Spend Bool) (a b : Value → Option Data) → Below f a b → (fs gs : List (List ℕ × Value)) (n left : ℕ) → same_fields f fs gs n ≡ Enough true left → (d e : Data) → option_map object (fields_data a fs) ≡ Some d → option_map object (fields_data b gs) ≡ Some e → d ≡ e
+fielded f a b h fs gs n left is d e p q = split (same_names (names_of fs) (names_of gs)) refl is
+  where
+    split : (c : Bool) → same_names (names_of fs) (names_of gs) ≡ c → (let o : Spend Bool = if c then same_items f (values_of fs) (values_of gs) else answer false in o) n ≡ Enough true left → d ≡ e
+    split false names passed = absurd (let no : ⊥ = cc in no)
+    split true names passed =
+        let ms = mapped object (fields_data a fs) d p in
+        let ns = mapped object (fields_data b gs) e q in
+        let xs = values_of fs in
+        let ys = values_of gs in
+        let rows = rows_pass (same_place f xs ys) (length xs) (length ys) n left passed in
+        let all : ms.0 ≡ ns.0 = fields_same a b fs gs ms.0 ns.0 ms.1 ns.1 (same_rows (names_of fs) (names_of gs) names) (λ j x y u v at there. h x y u v (subst Passes (pair_is f xs ys j x y at there) (rows.1 j (within xs j x at)))) in
+        sym ms.2 ∙ (ap object all ∙ ns.2)
+
 found_passes : (f : Value → Value → Spend Bool) (x : Value) (o : Option Value) → Passes (same_found f x o) → (v : Value) × (o ≡ Some v) × Passes (f x v)
 found_passes f x None (n, left, e) = absurd (let no : ⊥ = cc in no)
 found_passes f x (Some v) h = (v, refl, h)
@@ -285,6 +335,7 @@ cells look f a b h one (Some (cell.Text t)) (Some (cell.Text u)) n left once is 
 cells look f a b h one (Some (cell.Tuple xs)) (Some (cell.Tuple ys)) n left once is d e p q = listed f a b h xs ys n left is d e p q
 cells look f a b h one (Some (cell.List xs)) (Some (cell.List ys)) n left once is d e p q = listed f a b h xs ys n left is d e p q
 cells look f a b h one (Some (cell.Dict xs)) (Some (cell.Dict ys)) n left once is d e p q = entered look f a b h xs ys n left (once xs refl) is d e p q
+cells look f a b h one (Some (cell.Struct fs)) (Some (cell.Struct gs)) n left once is d e p q = fielded f a b h fs gs n left is d e p q
 cells look f a b h one (Some (cell.Range r)) y n left once is d e p q = absurd (let no : ⊥ = cc in no)
 cells look f a b h one (Some (cell.Func r)) y n left once is d e p q = absurd (let no : ⊥ = cc in no)
 cells look f a b h one (Some (cell.Frame r)) y n left once is d e p q = absurd (let no : ⊥ = cc in no)

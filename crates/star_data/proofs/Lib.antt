@@ -4,6 +4,7 @@ pub mod Parts
 pub mod Builds
 pub mod Sent
 pub mod Rows
+pub mod Fields
 pub mod Ints
 pub mod Strings
 pub mod Rising

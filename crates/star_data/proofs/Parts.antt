@@ -7,12 +7,12 @@ use Rattle.star_store.specs.declared.values.Value.{Value}
 use Rattle.star_store.specs.declared.values.Value.TheVariants as value
 use Rattle.star_store.specs.declared.values.Cell.{Cell}
 use Rattle.star_store.specs.declared.values.Cell.TheVariants as cell
-use Rattle.star_data.specs.Data.{cell_data, cell_of, data_of, entries_data, items_data, key_in, text_in, value_data}
-use Rattle.star_data.specs.Parts.{IsOpaque, IsPart, StandsIn, built_in, function, in_dict, in_list, in_tuple, int, key, method, range, text}
+use Rattle.star_data.specs.Data.{cell_data, cell_of, data_of, entries_data, fields_data, items_data, key_in, text_in, utf8_of, value_data}
+use Rattle.star_data.specs.Parts.{IsOpaque, IsPart, StandsIn, built_in, function, in_dict, in_list, in_struct, in_tuple, int, key, method, name, range, text}
 use Rattle.star_data.specs.Laws.{DataIsPlain, NoCycleIsData, PartsAreData}
 use Rattle.star_data.proofs.Ints.{int_is}
 use Rattle.star_data.proofs.Options.{chained, mapped}
-use Rattle.star_data.proofs.Strings.{key_is, string_is}
+use Rattle.star_data.proofs.Strings.{key_is, string_is, utf8_is}
 
 item-data : (f : Value → Option Data) (xs : List Value) (is : Items) → items_data f xs ≡ Some is → (i : ℕ) (x : Value) → slice_get xs i ≡ Some x → (d : Data) × (f x ≡ Some d)
 item-data f [] is e i x at = absurd (let no : ⊥ = cc in no)
@@ -38,6 +38,19 @@ entry-data look f (y ∷ es) ms e (suc i) x at =
     let rest = mapped (put k.0 d.0) (entries_data look f es) ms d.2 in
     entry-data look f es rest.0 rest.1 i x at
 
+pub field-data : (f : Value → Option Data) (fs : List (List ℕ × Value)) (ms : Members) → fields_data f fs ≡ Some ms → (i : ℕ) (x : List ℕ × Value) → slice_get fs i ≡ Some x → ((t : List ℕ) × (utf8_of x.0 ≡ Some t)) × ((d : Data) × (f x.1 ≡ Some d))
+field-data f [] ms e i x at = absurd (let no : ⊥ = cc in no)
+field-data f (y ∷ fs) ms e zero x at =
+    let k = chained (λ k. option_and_then (λ d. option_map (put k d) (fields_data f fs)) (f y.1)) (utf8_of y.0) ms e in
+    let d = chained (λ d. option_map (put k.0 d) (fields_data f fs)) (f y.1) ms k.2 in
+    let same : y ≡ x = cc in
+    subst (λ (z : List ℕ × Value). ((t : List ℕ) × (utf8_of z.0 ≡ Some t)) × ((d : Data) × (f z.1 ≡ Some d))) same ((k.0, k.1), (d.0, d.1))
+field-data f (y ∷ fs) ms e (suc i) x at =
+    let k = chained (λ k. option_and_then (λ d. option_map (put k d) (fields_data f fs)) (f y.1)) (utf8_of y.0) ms e in
+    let d = chained (λ d. option_map (put k.0 d) (fields_data f fs)) (f y.1) ms k.2 in
+    let rest = mapped (put k.0 d.0) (fields_data f fs) ms d.2 in
+    field-data f fs rest.0 rest.1 i x at
+
 -- a value that has a cell is data by its cell
 by_cell : (look : Value → Option Cell) (f : Value → Option Data) (v : Value) (d : Data) (c : Cell) → value_data look f v ≡ Some d → cell_of look v ≡ Some c → cell_data look f (Some c) ≡ Some d
 by_cell look f value.NoneValue d c e h = absurd (let no : ⊥ = cc in no)
@@ -56,6 +69,9 @@ part look f v x d e (in_tuple xs i h at) =
 part look f v x d e (in_dict es i k h at) =
     let all = mapped object (entries_data look f es) d (by_cell look f v d (cell.Dict es) e h) in
     (entry-data look f es all.0 all.1 i (k, x) at).1
+part look f v x d e (in_struct fs i n h at) =
+    let all = mapped object (fields_data f fs) d (by_cell look f v d (cell.Struct fs) e h) in
+    (field-data f fs all.0 all.1 i (n, x) at).1
 
 pub parts_are_data : PartsAreData
 unfolding data_of
@@ -70,6 +86,7 @@ is_text (Some (cell.Range r)) t e = absurd (let no : ⊥ = cc in no)
 is_text (Some (cell.Func r)) t e = absurd (let no : ⊥ = cc in no)
 is_text (Some (cell.Frame r)) t e = absurd (let no : ⊥ = cc in no)
 is_text (Some (cell.Bound m x)) t e = absurd (let no : ⊥ = cc in no)
+is_text (Some (cell.Struct fs)) t e = absurd (let no : ⊥ = cc in no)
 is_text None t e = absurd (let no : ⊥ = cc in no)
 
 not_opaque : (look : Value → Option Cell) (f : Value → Option Data) (v : Value) (d : Data) → value_data look f v ≡ Some d → IsOpaque look v → ⊥
@@ -86,6 +103,10 @@ not_opaque look f v d e (key es i x h at other) =
     other k.0 (is_text (cell_of look x.0) k.0 is.0) is.1
 not_opaque look f v d e (int n is out) = let inside = int_is n d (ap (value_data look f) (sym is) ∙ e) in absurd (let both : true ≡ false = sym inside.0 ∙ out in let no : ⊥ = cc in no)
 not_opaque look f v d e (text t h other) = other (string_is t d (by_cell look f v d (cell.Text t) e h)).1
+not_opaque look f v d e (name fs i x h at other) =
+    let all = mapped object (fields_data f fs) d (by_cell look f v d (cell.Struct fs) e h) in
+    let k = (field-data f fs all.0 all.1 i x at).0 in
+    other (utf8_is x.0 k.0 k.1).1
 
 pub data_is_plain : DataIsPlain
 unfolding data_of

@@ -12,13 +12,13 @@ use Rattle.star_store.specs.declared.values.Value.{Value}
 use Rattle.star_store.specs.declared.values.Value.TheVariants as value
 use Rattle.star_store.specs.declared.values.Cell.{Cell}
 use Rattle.star_store.specs.declared.values.Cell.TheVariants as cell
-use Rattle.star_data.specs.Data.{cell_data, cell_of, data_of, entries_data, items_data, key_in, value_data}
+use Rattle.star_data.specs.Data.{cell_data, cell_of, data_of, entries_data, fields_data, items_data, key_in, utf8_of, value_data}
 use Rattle.star_data.specs.Laws.{ReadsBack, SerdeReadsBack, TextTells}
-use Rattle.star_data.specs.Parts.{IsPart, in_dict, in_list, in_tuple}
+use Rattle.star_data.specs.Parts.{IsPart, in_dict, in_list, in_struct, in_tuple}
 use Rattle.star_data.specs.Reading.{read_within}
 use Rattle.star_data.proofs.Ints.{int_is}
 use Rattle.star_data.proofs.Back.{ComesBack, ItemsComeBack, MembersComeBack, array_back, boolean_back, negative_back, null_back, object_back, put_back, read_back, string_back, unsigned_back}
-use Rattle.star_data.proofs.Equal.{sorted_entries}
+use Rattle.star_data.proofs.Equal.{sorted_entries, sorted_fields}
 use Rattle.star_data.proofs.Options.{chained, mapped}
 use Rattle.star_data.proofs.Strings.{string_is}
 
@@ -45,6 +45,14 @@ members_come look f n (x ∷ es) ms h e =
     let rest = mapped (put k.0 d.0) (entries_data look f es) ms d.2 in
     subst (MembersComeBack n) rest.2 (put_back n k.0 d.0 rest.0 (h 0 x d.0 refl d.1) (members_come look f n es rest.0 (λ i. h (suc i)) rest.1))
 
+fields_come : (f : Value → Option Data) (n : ℕ) (fs : List (List ℕ × Value)) (ms : Members) → ((i : ℕ) (e : List ℕ × Value) (d : Data) → slice_get fs i ≡ Some e → f e.1 ≡ Some d → ComesBack n d) → fields_data f fs ≡ Some ms → MembersComeBack n ms
+fields_come f n [] ms h e = subst (MembersComeBack n) (let same : no_members ≡ ms = cc in same) tt
+fields_come f n (x ∷ fs) ms h e =
+    let k = chained (λ k. option_and_then (λ d. option_map (put k d) (fields_data f fs)) (f x.1)) (utf8_of x.0) ms e in
+    let d = chained (λ d. option_map (put k.0 d) (fields_data f fs)) (f x.1) ms k.2 in
+    let rest = mapped (put k.0 d.0) (fields_data f fs) ms d.2 in
+    subst (MembersComeBack n) rest.2 (put_back n k.0 d.0 rest.0 (h 0 x d.0 refl d.1) (fields_come f n fs rest.0 (λ i. h (suc i)) rest.1))
+
 cell_back : (look : Value → Option Cell) (f : Value → Option Data) (n : ℕ) (v : Value) (c : Option Cell) (d : Data) → cell_of look v ≡ c → PartsComeBack look f n v → cell_data look f c ≡ Some d → ComesBack (suc n) d
 cell_back look f n v (Some (cell.Text t)) d is parts e = subst (ComesBack (suc n)) (string_is t d e).0 (string_back (suc n) t)
 cell_back look f n v (Some (cell.Tuple xs)) d is parts e =
@@ -60,6 +68,9 @@ cell_back look f n v (Some (cell.Range r)) d is parts e = absurd (let no : ⊥ =
 cell_back look f n v (Some (cell.Func r)) d is parts e = absurd (let no : ⊥ = cc in no)
 cell_back look f n v (Some (cell.Frame r)) d is parts e = absurd (let no : ⊥ = cc in no)
 cell_back look f n v (Some (cell.Bound m r)) d is parts e = absurd (let no : ⊥ = cc in no)
+cell_back look f n v (Some (cell.Struct fs)) d is parts e =
+    let all = mapped object (fields_data f fs) d e in
+    subst (ComesBack (suc n)) all.2 (object_back n all.0 (fields_come f n fs all.0 (λ i x y at some. parts x.1 y (in_struct fs i x.0 is at) some) all.1) (sorted_fields f fs all.0 all.1))
 cell_back look f n v None d is parts e = absurd (let no : ⊥ = cc in no)
 
 value_back : (look : Value → Option Cell) (f : Value → Option Data) (n : ℕ) (v : Value) (d : Data) → PartsComeBack look f n v → value_data look f v ≡ Some d → ComesBack (suc n) d

@@ -23,16 +23,16 @@ use Rattle.star_store.specs.declared.values.Value.TheVariants as value
 use Rattle.star_store.specs.declared.values.Cell.{Cell}
 use Rattle.star_store.specs.declared.values.Cell.TheVariants as cell
 use Rattle.star_store.specs.Spend.{Enough, Lacks, Spend, Spent, spend_then, visited}
-use Rattle.star_store.specs.Text.{Say, all_said, bool_text, on_path, quoted, say, say_cell, say_dict, say_entries, say_entry, say_item, say_items, say_list, say_new_dict, say_new_list, say_pair, say_place, say_tuple, say_value, separator, shown, shown_char, text, then_say, tuple_end}
-use Rattle.star_data.specs.Data.{cell_data, cell_of, data_of, entries_data, items_data, key_in, value_data}
-use Rattle.star_data.specs.Laws.{IsNoLonger}
+use Rattle.star_store.specs.Text.{Say, all_said, bool_text, on_path, quoted, say, say_cell, say_dict, say_entries, say_entry, say_field, say_fields, say_item, say_items, say_list, say_named, say_new_dict, say_new_list, say_pair, say_place, say_struct, say_tuple, say_value, separator, shown, shown_char, text, then_say, tuple_end}
+use Rattle.star_data.specs.Data.{cell_data, cell_of, data_of, entries_data, fields_data, items_data, key_in, utf8_of, value_data}
+use Rattle.star_data.specs.Laws.{IsNoLonger, IsPlain, NamesArePlain}
 use Rattle.star_data.specs.Paths.{AllStandInEach, StandsInEach}
 use Rattle.star_data.proofs.Ints.{int_is}
-use Rattle.star_data.proofs.Builds.{in_a_dict, in_a_list, in_a_tuple, mapped_at, no_cell_data, starts}
+use Rattle.star_data.proofs.Builds.{in_a_dict, in_a_list, in_a_struct, in_a_tuple, mapped_at, no_cell_data, starts}
 use Rattle.star_data.proofs.Options.{chained, mapped}
 use Rattle.star_data.proofs.Parts.{is_text}
 use Rattle.star_data.proofs.Sent.{int_text}
-use Rattle.star_data.proofs.Strings.{key_is, string_is}
+use Rattle.star_data.proofs.Strings.{key_is, string_is, utf8_is}
 
 -- ---- strings
 
@@ -98,6 +98,18 @@ string_long t u =
     let inside = shown_long t u in
     let one : length (codes "\"") ≡ 1 = refl in
     omega (arith, inside, one, length-append (escape t) (34 ∷ []), length-append (codes "\"") (shown t ++ codes "\""), length-append (shown t) (codes "\""))
+
+-- a string of plain bytes is as long as itself in JSON
+plain_escape : (t : List ℕ) → ((j b : ℕ) → slice_get t j ≡ Some b → IsPlain b) → escape t ≡ t
+plain_escape [] h = refl
+plain_escape (x ∷ t) h =
+    let p = h 0 x refl in
+    ap₂ (λ (a b : List ℕ). a ++ b) (escape_byte_plain x p.quote p.backslash p.above) (plain_escape t (λ j b at. h (suc j) b at))
+
+plain_long : (t : List ℕ) → ((j b : ℕ) → slice_get t j ≡ Some b → IsPlain b) → length (json.quoted t) ≡ length t + 2
+plain_long t h =
+    let same : length (escape t) ≡ length t = ap length (plain_escape t h) in
+    omega (arith, same, length-append (escape t) (34 ∷ []))
 
 -- ---- texts that are written
 
@@ -263,6 +275,51 @@ object_said look g f es ms parts keys is out new n left e =
     let text = members_short false ms in
     omega (arith, begun, brace, inside, ended, back, text)
 
+-- ---- fields
+
+abbrev NamesPlain : List (List ℕ × Value) → Type 0
+NamesPlain fs = (j : ℕ) (e : List ℕ × Value) → slice_get fs j ≡ Some e → (k b : ℕ) → slice_get e.0 k ≡ Some b → IsPlain b
+
+fields_said : (g : Value → Say) (f : Value → Option Data) (whole fs : List (List ℕ × Value)) (i : ℕ) (ms : Members) → IsRest whole i fs → NamesPlain fs
+    → ((j : ℕ) (e : List ℕ × Value) (d : Data) → slice_get fs j ≡ Some e → f e.1 ≡ Some d → SaysEnough (g e.1) d)
+    → fields_data f fs ≡ Some ms → (out new : List ℕ) (n left : ℕ) → all_said (say_field g whole) (length fs) i out n ≡ Enough new left → 2 * weight ms + 3 * length out ≤ 3 * length new
+fields_said g f whole [] i ms rest plain parts is out new n left e =
+    let none : no_members ≡ ms = cc in
+    let same : out ≡ new = cc in
+    let light : weight ms ≡ 0 = ap weight (sym none) in
+    omega (arith, light, ap length same)
+fields_said g f whole (x ∷ fs) i ms rest plain parts is out new n left e =
+    let k = chained (λ k. option_and_then (λ d. option_map (put k d) (fields_data f fs)) (f x.1)) (utf8_of x.0) ms is in
+    let d = chained (λ d. option_map (put k.0 d) (fields_data f fs)) (f x.1) ms k.2 in
+    let more = mapped (put k.0 d.0) (fields_data f fs) ms d.2 in
+    let both = parted (say_field g whole i) (all_said (say_field g whole) (length fs) (i + 1)) out new n left e in
+    let place = parted (say (separator i)) (say_named g (slice_get whole i)) out both.mid n both.steps both.first in
+    let there : say_named g (Some x) place.mid place.steps ≡ Enough both.mid both.steps = ap (λ o. say_named g o place.mid place.steps) (sym (rest_first whole i x fs rest)) ∙ place.second in
+    let key = parted (say x.0) (then_say (say (codes " = ")) (g x.1)) place.mid both.mid place.steps both.steps there in
+    let sign = parted (say (codes " = ")) (g x.1) key.mid both.mid key.steps both.steps key.second in
+    let before = said (separator i) out place.mid n place.steps place.first in
+    let name = said x.0 place.mid key.mid place.steps key.steps key.first in
+    let between = said (codes " = ") key.mid sign.mid key.steps sign.steps sign.first in
+    let three : length (codes " = ") ≡ 3 = refl in
+    let here = parts 0 x d.0 refl d.1 sign.mid both.mid sign.steps both.steps sign.second in
+    let next = fields_said g f whole fs (i + 1) more.0 (rest_later whole i x fs rest) (λ j. plain (suc j)) (λ j. parts (suc j)) more.1 both.mid new both.steps left both.second in
+    let long : length (json.quoted k.0) ≡ length x.0 + 2 = ap (λ z. length (json.quoted z)) (sym (utf8_is x.0 k.0 k.1).0) ∙ plain_long x.0 (plain 0 x refl) in
+    let light : weight ms ≤ length (json.quoted k.0) + length (compact_text d.0) + 2 + weight more.0 = subst (λ z. weight z ≤ length (json.quoted k.0) + length (compact_text d.0) + 2 + weight more.0) more.2 (weight_put k.0 d.0 more.0) in
+    omega (arith, before, name, between, three, here, next, long, light)
+
+struct_said : (g : Value → Say) (f : Value → Option Data) (fs : List (List ℕ × Value)) (ms : Members) → NamesPlain fs → ((j : ℕ) (e : List ℕ × Value) (d : Data) → slice_get fs j ≡ Some e → f e.1 ≡ Some d → SaysEnough (g e.1) d)
+    → fields_data f fs ≡ Some ms → SaysEnough (say_struct g fs) (object ms)
+struct_said g f fs ms plain parts is out new n left e =
+    let one = parted (say (codes "struct(")) (then_say (say_fields g fs) (say (codes ")"))) out new n left e in
+    let two = parted (say_fields g fs) (say (codes ")")) one.mid new one.steps left one.second in
+    let begun = said (codes "struct(") out one.mid n one.steps one.first in
+    let head : length (codes "struct(") ≡ 7 = refl in
+    let inside = fields_said g f fs fs 0 ms (rest_all fs) plain parts is one.mid two.mid one.steps two.steps two.first in
+    let ended = said (codes ")") two.mid new two.steps left two.second in
+    let back : length (codes ")") ≡ 1 = refl in
+    let text = members_short false ms in
+    omega (arith, begun, head, inside, ended, back, text)
+
 -- ---- values
 
 plain_said : (d : Data) (t : List ℕ) → 2 * length (compact_text d) ≤ 3 * length t → SaysEnough (say t) d
@@ -299,16 +356,16 @@ not_on_path look n path v c d is stands some = turn (on_path v path) refl
     turn false e = refl
     turn true e = absurd (let none : None ≡ Some d = sym (no_cell_data look n path v c is stands e) ∙ some in let no : ⊥ = cc in no)
 
-cell_said : (look : Value → Option Cell) (g : List Value → Value → Say) (n : ℕ) (path : List Value) (v : Value) → StandsInEach look path v → SaidWithin look g (data_of look n) → KeysSaid look g
+cell_said : (look : Value → Option Cell) → NamesArePlain look → (g : List Value → Value → Say) (n : ℕ) (path : List Value) (v : Value) → StandsInEach look path v → SaidWithin look g (data_of look n) → KeysSaid look g
     → (c : Option Cell) → cell_of look v ≡ c → (d : Data) → cell_data look (data_of look n) c ≡ Some d → SaysEnough (say_cell g path v c) d
-cell_said look g n path v stands within keys (Some (cell.Text t)) is d e =
+cell_said look plain g n path v stands within keys (Some (cell.Text t)) is d e =
     let same = string_is t d e in
     subst (SaysEnough (say (quoted t))) same.0 (plain_said (string t) (quoted t) (string_long t same.1))
-cell_said look g n path v stands within keys (Some (cell.Tuple xs)) is d e =
+cell_said look plain g n path v stands within keys (Some (cell.Tuple xs)) is d e =
     let f = data_of look n in
     let all = mapped array (items_data f xs) d e in
     subst (SaysEnough (say_tuple (g path) xs)) all.2 (array_said (g path) f xs all.0 (codes "(") (tuple_end xs) (omega arith) (tuple_ends xs) (of_item look path xs (in_a_tuple look path v xs is stands) g f within) all.1)
-cell_said look g n path v stands within keys (Some (cell.List xs)) is d e =
+cell_said look plain g n path v stands within keys (Some (cell.List xs)) is d e =
     let f = data_of look n in
     let all = mapped array (items_data f xs) d e in
     let off = not_on_path look n path v (cell.List xs) d is stands e in
@@ -316,7 +373,7 @@ cell_said look g n path v stands within keys (Some (cell.List xs)) is d e =
     let inside : say_new_list (g (path ++ v ∷ [])) xs out m ≡ Enough new left = sym (ap (λ b. (let s : Spent (List ℕ) = if b then say (codes "[...]") out m else say_new_list (g (path ++ v ∷ [])) xs out m in s)) off) ∙ h in
     array_said (g (path ++ v ∷ [])) f xs all.0 (codes "[") (codes "]") (omega arith) (omega arith) (of_item look (path ++ v ∷ []) xs (in_a_list look path v xs is stands) g f within) all.1 out new m left inside
     ))
-cell_said look g n path v stands within keys (Some (cell.Dict es)) is d e =
+cell_said look plain g n path v stands within keys (Some (cell.Dict es)) is d e =
     let f = data_of look n in
     let all = mapped object (entries_data look f es) d e in
     let off = not_on_path look n path v (cell.Dict es) d is stands e in
@@ -325,11 +382,16 @@ cell_said look g n path v stands within keys (Some (cell.Dict es)) is d e =
     let inside : say_new_dict (g (path ++ v ∷ [])) es out m ≡ Enough new left = sym (ap (λ b. (let s : Spent (List ℕ) = if b then say (codes "{...}") out m else say_new_dict (g (path ++ v ∷ [])) es out m in s)) off) ∙ h in
     object_said look (g (path ++ v ∷ [])) f es all.0 (λ j x y at some. within (path ++ v ∷ []) x.1 y (values.all j x.1 (mapped_at (λ (z : Value × Value). z.1) es j x at)) some) (keys (path ++ v ∷ [])) all.1 out new m left inside
     ))
-cell_said look g n path v stands within keys (Some (cell.Range r)) is d e = absurd (let no : ⊥ = cc in no)
-cell_said look g n path v stands within keys (Some (cell.Func r)) is d e = absurd (let no : ⊥ = cc in no)
-cell_said look g n path v stands within keys (Some (cell.Frame r)) is d e = absurd (let no : ⊥ = cc in no)
-cell_said look g n path v stands within keys (Some (cell.Bound m r)) is d e = absurd (let no : ⊥ = cc in no)
-cell_said look g n path v stands within keys None is d e = absurd (let no : ⊥ = cc in no)
+cell_said look plain g n path v stands within keys (Some (cell.Range r)) is d e = absurd (let no : ⊥ = cc in no)
+cell_said look plain g n path v stands within keys (Some (cell.Func r)) is d e = absurd (let no : ⊥ = cc in no)
+cell_said look plain g n path v stands within keys (Some (cell.Frame r)) is d e = absurd (let no : ⊥ = cc in no)
+cell_said look plain g n path v stands within keys (Some (cell.Bound m r)) is d e = absurd (let no : ⊥ = cc in no)
+cell_said look plain g n path v stands within keys (Some (cell.Struct fs)) is d e =
+    let f = data_of look n in
+    let all = mapped object (fields_data f fs) d e in
+    let values = in_a_struct look path v fs is stands in
+    subst (SaysEnough (say_struct (g path) fs)) all.2 (struct_said (g path) f fs all.0 (plain v fs is) (λ j x y at some. within path x.1 y (values.all j x.1 (mapped_at (λ (z : List ℕ × Value). z.1) fs j x at)) some) all.1)
+cell_said look plain g n path v stands within keys None is d e = absurd (let no : ⊥ = cc in no)
 
 bool_short : (b : Bool) → 2 * length (compact_text (boolean b)) ≤ 3 * length (bool_text b)
 bool_short true = omega arith
@@ -338,22 +400,22 @@ bool_short false = omega arith
 int_short : (z : ℤ) → 2 * length (compact_text (number (of_integer z))) ≤ 3 * length (signed_decimal z)
 int_short z = let same = ap length (int_text z) in omega (arith, same)
 
-value_said : (look : Value → Option Cell) (g : List Value → Value → Say) (n : ℕ) (path : List Value) (v : Value) → StandsInEach look path v → SaidWithin look g (data_of look n) → KeysSaid look g → (d : Data) → value_data look (data_of look n) v ≡ Some d → SaysEnough (say_value look g path v) d
-value_said look g n path value.NoneValue stands within keys d e = subst (SaysEnough (say (codes "None"))) (let same : null ≡ d = cc in same) (plain_said null (codes "None") (omega arith))
-value_said look g n path (value.Bool b) stands within keys d e = subst (SaysEnough (say (bool_text b))) (let same : boolean b ≡ d = cc in same) (plain_said (boolean b) (bool_text b) (bool_short b))
-value_said look g n path (value.Int z) stands within keys d e = subst (SaysEnough (say (signed_decimal z))) (int_is z d e).1 (plain_said (number (of_integer z)) (signed_decimal z) (int_short z))
-value_said look g n path (value.Ref h a) stands within keys d e = cell_said look g n path (value.Ref h a) stands within keys (look (value.Ref h a)) refl d e
-value_said look g n path (value.Builtin b) stands within keys d e = absurd (let no : ⊥ = cc in no)
+value_said : (look : Value → Option Cell) → NamesArePlain look → (g : List Value → Value → Say) (n : ℕ) (path : List Value) (v : Value) → StandsInEach look path v → SaidWithin look g (data_of look n) → KeysSaid look g → (d : Data) → value_data look (data_of look n) v ≡ Some d → SaysEnough (say_value look g path v) d
+value_said look plain g n path value.NoneValue stands within keys d e = subst (SaysEnough (say (codes "None"))) (let same : null ≡ d = cc in same) (plain_said null (codes "None") (omega arith))
+value_said look plain g n path (value.Bool b) stands within keys d e = subst (SaysEnough (say (bool_text b))) (let same : boolean b ≡ d = cc in same) (plain_said (boolean b) (bool_text b) (bool_short b))
+value_said look plain g n path (value.Int z) stands within keys d e = subst (SaysEnough (say (signed_decimal z))) (int_is z d e).1 (plain_said (number (of_integer z)) (signed_decimal z) (int_short z))
+value_said look plain g n path (value.Ref h a) stands within keys d e = cell_said look plain g n path (value.Ref h a) stands within keys (look (value.Ref h a)) refl d e
+value_said look plain g n path (value.Builtin b) stands within keys d e = absurd (let no : ⊥ = cc in no)
 
-long_enough : (look : Value → Option Cell) (levels n : ℕ) → SaidWithin look (text look levels) (data_of look n)
+long_enough : (look : Value → Option Cell) → NamesArePlain look → (levels n : ℕ) → SaidWithin look (text look levels) (data_of look n)
 unfolding text data_of
-long_enough look zero n path v d stands some out new s left e = absurd (let no : ⊥ = cc in no)
-long_enough look (suc levels) zero path v d stands some out new s left e = absurd (let no : ⊥ = cc in no)
-long_enough look (suc levels) (suc n) path v d stands some out new s left e =
-    value_said look (text look levels) n path v stands (long_enough look levels n) (key_said look levels) d some out new (s - 1) left
+long_enough look plain zero n path v d stands some out new s left e = absurd (let no : ⊥ = cc in no)
+long_enough look plain (suc levels) zero path v d stands some out new s left e = absurd (let no : ⊥ = cc in no)
+long_enough look plain (suc levels) (suc n) path v d stands some out new s left e =
+    value_said look plain (text look levels) n path v stands (long_enough look plain levels n) (key_said look levels) d some out new (s - 1) left
     (unvisited (say_value look (text look levels) path v out) s left new e)
 
 pub is_no_longer : IsNoLonger
-is_no_longer look levels steps left n v t d e some =
-    let all = long_enough look levels n [] v d (starts look v) some [] t steps left e in
+is_no_longer look plain levels steps left n v t d e some =
+    let all = long_enough look plain levels n [] v d (starts look v) some [] t steps left e in
     omega (arith, all)

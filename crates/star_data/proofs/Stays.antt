@@ -6,7 +6,7 @@ use Rattle.star_store.specs.declared.values.Value.{Value}
 use Rattle.star_store.specs.declared.values.Value.TheVariants as value
 use Rattle.star_store.specs.declared.values.Cell.{Cell}
 use Rattle.star_store.specs.declared.values.Cell.TheVariants as cell
-use Rattle.star_data.specs.Data.{cell_data, cell_of, data_of, entries_data, items_data, key_in, value_data}
+use Rattle.star_data.specs.Data.{cell_data, cell_of, data_of, entries_data, fields_data, items_data, key_in, utf8_of, value_data}
 use Rattle.star_data.specs.Laws.{DataStays, OneData}
 use Rattle.star_data.proofs.Options.{chained, mapped}
 
@@ -38,6 +38,15 @@ entries-stay look see s f g h (x ∷ es) ms e =
     let key : key_in (cell_of see x.0) ≡ Some k.0 = key-stays (cell_of look x.0) (cell_of see x.0) (led-stays look see s x.0) k.0 k.1 in
     ap (option_and_then (λ k. option_and_then (λ d. option_map (put k d) (entries_data see g es)) (g x.1))) key ∙ (ap (option_and_then (λ d. option_map (put k.0 d) (entries_data see g es))) (h x.1 d.0 d.1) ∙ (ap (option_map (put k.0 d.0)) more ∙ ap Some rest.2))
 
+fields-stay : (f g : Value → Option Data) → Stay Value Data f g → (fs : List (List ℕ × Value)) (ms : Members) → fields_data f fs ≡ Some ms → fields_data g fs ≡ Some ms
+fields-stay f g h [] ms e = e
+fields-stay f g h (x ∷ fs) ms e =
+    let k = chained (λ k. option_and_then (λ d. option_map (put k d) (fields_data f fs)) (f x.1)) (utf8_of x.0) ms e in
+    let d = chained (λ d. option_map (put k.0 d) (fields_data f fs)) (f x.1) ms k.2 in
+    let rest = mapped (put k.0 d.0) (fields_data f fs) ms d.2 in
+    let more : fields_data g fs ≡ Some rest.0 = fields-stay f g h fs rest.0 rest.1 in
+    ap (option_and_then (λ k. option_and_then (λ d. option_map (put k d) (fields_data g fs)) (g x.1))) k.1 ∙ (ap (option_and_then (λ d. option_map (put k.0 d) (fields_data g fs))) (h x.1 d.0 d.1) ∙ (ap (option_map (put k.0 d.0)) more ∙ ap Some rest.2))
+
 cell-stays : (look see : Value → Option Cell) → Stay Value Cell look see → (f g : Value → Option Data) → Stay Value Data f g → (o p : Option Cell) → ((c : Cell) → o ≡ Some c → p ≡ Some c) → (d : Data) → cell_data look f o ≡ Some d → cell_data see g p ≡ Some d
 cell-stays look see s f g h (Some (cell.Text t)) p k d e = ap (cell_data see g) (k (cell.Text t) refl) ∙ e
 cell-stays look see s f g h (Some (cell.Tuple xs)) p k d e =
@@ -53,6 +62,9 @@ cell-stays look see s f g h (Some (cell.Range r)) p k d e = absurd (let no : ⊥
 cell-stays look see s f g h (Some (cell.Func r)) p k d e = absurd (let no : ⊥ = cc in no)
 cell-stays look see s f g h (Some (cell.Frame r)) p k d e = absurd (let no : ⊥ = cc in no)
 cell-stays look see s f g h (Some (cell.Bound m x)) p k d e = absurd (let no : ⊥ = cc in no)
+cell-stays look see s f g h (Some (cell.Struct fs)) p k d e =
+    let all = mapped object (fields_data f fs) d e in
+    ap (cell_data see g) (k (cell.Struct fs) refl) ∙ (ap (option_map object) (fields-stay f g h fs all.0 all.1) ∙ ap Some all.2)
 cell-stays look see s f g h None p k d e = absurd (let no : ⊥ = cc in no)
 
 value-stays : (look see : Value → Option Cell) → Stay Value Cell look see → (f g : Value → Option Data) → Stay Value Data f g → Stay Value Data (value_data look f) (value_data see g)

@@ -9,14 +9,14 @@ use Rattle.star_data.specs.Data.{key_in, text_in, utf8_of}
 use Rattle.star_data.proofs.Options.{chained, mapped}
 
 -- they are UTF-8, and are themselves
-utf8_is : (t u : List ℕ) → utf8_of t ≡ Some u → (t ≡ u) × IsUtf8 t
+pub utf8_is : (t u : List ℕ) → utf8_of t ≡ Some u → (t ≡ u) × IsUtf8 t
 utf8_is t u e = by (is_utf8 t) refl e
   where
     by : (b : Bool) → is_utf8 t ≡ b → (if b then Some t else None) ≡ Some u → (t ≡ u) × IsUtf8 t
     by true is e = (let same : t ≡ u = cc in same, IsUtf8-from_is_utf8 t is)
     by false is e = absurd (let no : ⊥ = cc in no)
 
-its_own : (t : List ℕ) → IsUtf8 t → utf8_of t ≡ Some t
+pub its_own : (t : List ℕ) → IsUtf8 t → utf8_of t ≡ Some t
 its_own t h = ap (λ b. if b then Some t else None) (is_utf8-from_IsUtf8 t h)
 
 pub string_is : (t : List ℕ) (d : Data) → option_map string (utf8_of t) ≡ Some d → (string t ≡ d) × IsUtf8 t

@@ -41,12 +41,19 @@ entries_data look f (e ∷ es) =
     option_and_then (λ k. option_and_then (λ d. option_map (put k d) (entries_data look f es)) (f e.1))
     (key_in (cell_of look e.0))
 
--- strings, lists and tuples of data, dictionaries; nothing else
+-- fields whose values are all data: each at its name
+abbrev pub fields_data : (Value → Option Data) → List (List ℕ × Value) → Option Members
+fields_data f [] = Some no_members
+fields_data f (e ∷ es) =
+    option_and_then (λ k. option_and_then (λ d. option_map (put k d) (fields_data f es)) (f e.1)) (utf8_of e.0)
+
+-- strings, lists and tuples of data, dictionaries, structs; nothing else
 abbrev pub cell_data : (Value → Option Cell) → (Value → Option Data) → Option Cell → Option Data
 cell_data look f (Some (cell.Text t)) = option_map string (utf8_of t)
 cell_data look f (Some (cell.Tuple xs)) = option_map array (items_data f xs)
 cell_data look f (Some (cell.List xs)) = option_map array (items_data f xs)
 cell_data look f (Some (cell.Dict es)) = option_map object (entries_data look f es)
+cell_data look f (Some (cell.Struct fs)) = option_map object (fields_data f fs)
 cell_data look f _ = None
 
 -- ints of 64 bits, which all ints of a run are

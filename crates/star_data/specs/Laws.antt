@@ -71,9 +71,21 @@ TextTells =
     (look see : Value → Option Cell) (n m : ℕ) (v w : Value) (d e : Data) → data_of look n v ≡ Some d
     → data_of see m w ≡ Some e → compact_text d ≡ compact_text e → d ≡ e
 
--- the JSON of a value is at most one and a half times as long as its text
+-- a byte that JSON writes as it is
+pub record IsPlain (b : ℕ) : Type 0 where
+  pub above : 32 ≤ b
+  pub quote : b ≡ 34 → ⊥
+  pub backslash : b ≡ 92 → ⊥
+
+-- the names of all structs have such bytes alone
+abbrev pub NamesArePlain : (Value → Option Cell) → Type 0
+NamesArePlain look =
+    (v : Value) (fs : List (List ℕ × Value)) → cell_of look v ≡ Some (cell.Struct fs) → (i : ℕ) (f : List ℕ × Value)
+    → slice_get fs i ≡ Some f → (j b : ℕ) → slice_get f.0 j ≡ Some b → IsPlain b
+
+-- then the JSON of a value is at most one and a half times as long as its text. A text shows names as they are
 abbrev pub IsNoLonger : Type 0
 IsNoLonger =
-    (look : Value → Option Cell) (levels steps left n : ℕ) (v : Value) (t : List ℕ) (d : Data)
+    (look : Value → Option Cell) → NamesArePlain look → (levels steps left n : ℕ) (v : Value) (t : List ℕ) (d : Data)
     → text look levels [] v [] steps ≡ Enough t left → data_of look n v ≡ Some d
     → 2 * length (compact_text d) ≤ 3 * length t

@@ -3,9 +3,10 @@
 ghost use Rattle.std.specs.Prelude.{◌≡◌, ◌-◌, IfOk, IfSome, None, OnOk, Some, if◌then◌else◌, map, take, vec_len};
 ghost use Rattle.std.specs.Option.{option_copied, option_map};
 ghost use Rattle.serde_json.specs.Data.{array, object, string};
+ghost use Rattle.star_store.specs.Fields.{values_of};
 ghost use Rattle.star_store.specs.Store.{look};
 ghost use Rattle.star_store.specs.Text.{on_path, same_address};
-ghost use Rattle.star_data.specs.Data.{cell_data, cell_of, data_of, entries_data, int_data, items_data, key_in, utf8_of};
+ghost use Rattle.star_data.specs.Data.{cell_data, cell_of, data_of, entries_data, fields_data, int_data, items_data, key_in, utf8_of};
 ghost use Rattle.star_data.specs.Texts.{IsJson, Says, Sends, row_data};
 ghost use Rattle.star_store.specs.declared.values.Cell.TheVariants as cell;
 ghost use Rattle.star_data.specs.Paths.{AllStandInEach, StandsInEach};
@@ -14,6 +15,7 @@ ghost use Rattle.star_data.specs.Stores.{look_in};
 
 use json::Writer;
 use star_store::arena::{Arena, Homes};
+use star_store::fields::Fields;
 use star_store::values::{Cell, Value};
 use std::alloc::{AllocError, Global};
 use std::cmp::Ordering;
@@ -34,8 +36,8 @@ struct Stores<'a> {
 }
 
 /// The text, and after it the JSON of a value that nests less deep than `levels`: None, bools, ints and strings, lists
-/// and tuples as arrays, dictionaries whose keys are all strings as objects, with their members in byte order. The text
-/// alone for a value that contains anything else, or itself.
+/// and tuples as arrays, structs and dictionaries whose keys are all strings as objects, with their members in byte
+/// order. The text alone for a value that contains anything else, or itself.
 ///
 /// It visits no more than the text of the value does.
 pub fn write_data<'a>(
@@ -166,6 +168,9 @@ fn write_cell<'a>(
         Some(Cell::Dict(entries)) => {
             write_dict(alloc, stores, levels, path, value, entries.as_slice(), out)
         }
+        Some(Cell::Struct(fields)) => {
+            write_struct(alloc, stores, levels, path, fields.get(), out)
+        }
         _ => Ok(false),
     }
 }
@@ -251,6 +256,37 @@ fn write_items<'a>(
         }
     }
     out.end_array()?;
+    Ok(true)
+}
+
+/// The members of a struct are in byte order already.
+#[cycle(write)]
+fn write_struct<'a>(
+    alloc: Global,
+    stores: &Stores<'a>,
+    levels: u32,
+    path: &mut Vec<Value>,
+    fields: &'a Fields,
+    out: &mut Writer,
+) -> Result<bool, AllocError>
+    requires { AllStandInEach (look_in stores.now) path.old.items (values_of fields.now) }
+    ensures data { IfOk result (λ b. Sends
+        (option_map object (fields_data (data_of (look_in stores.now) levels) fields.now)) b
+        out.old.tokens out.new.tokens) }
+    ensures path { OnOk result (path.new.items ≡ path.old.items) }
+    ensures before { out.new.before ≡ out.old.before }
+{
+    out.begin_object()?;
+    for i in 0..fields.len() {
+        let Some((name, value)) = fields.at(i) else {
+            return Ok(false);
+        };
+        out.key(name.as_str())?;
+        if !write_value(alloc, stores, levels, path, value, out)? {
+            return Ok(false);
+        }
+    }
+    out.end_object()?;
     Ok(true)
 }
 

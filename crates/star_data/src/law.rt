@@ -47,7 +47,8 @@ pub fn text_tells()
     ensures { TextTells }
 {}
 
-/// The JSON of a value is at most one and a half times as long as its text.
+/// The JSON of a value is at most one and a half times as long as its text, if no name of a struct has a byte that JSON
+/// escapes.
 pub fn is_no_longer()
     ensures { IsNoLonger }
 {}

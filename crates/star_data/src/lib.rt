@@ -1,4 +1,4 @@
-//! Values as data: the JSON of a value, or that it has none (`docs/REPORT.md`).
+//! Values as data: the JSON of a value, or that it has none (`docs/USING.md`).
 //!
 //! Begin at `write_data` in `data.rt`. It visits no more values than the text of the value does. None, bools, ints and
 //! strings are themselves, lists and tuples are arrays, and a dictionary whose keys are all strings is an object with

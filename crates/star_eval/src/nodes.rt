@@ -8,7 +8,7 @@ ghost use Rattle.star_eval.specs.Steps.{slice_of};
 use crate::evaluate::{evaluate, evaluate_each, evaluate_entries, evaluate_maybe};
 use crate::parts::fresh_entries;
 use sqlite_items::Boxed;
-use star_attribute::methods::attribute;
+use star_attribute::attributes::read_attribute;
 use star_machine::fault::EvalError;
 use star_machine::machine::Machine;
 use star_meaning::site::Site;
@@ -248,7 +248,7 @@ pub(crate) fn evaluate_attribute(
         result machine.new }
 {
     let value = evaluate(machine, world, levels, site, value)?;
-    attribute(
+    read_attribute(
         machine,
         world.setting(),
         site.line,

@@ -81,6 +81,10 @@ const FUNCTIONS: &[(&'static str, Wanted, Wanted)] = &[
     ("len", Wanted::Sized, Wanted::Anything),
     ("range", Wanted::Int, Wanted::Int),
     ("zip", Wanted::Iterable, Wanted::Iterable),
+    ("chr", Wanted::Int, Wanted::Anything),
+    ("getattr", Wanted::Anything, Wanted::Text),
+    ("hasattr", Wanted::Anything, Wanted::Text),
+    ("ord", Wanted::Text, Wanted::Anything),
 ];
 
 /// The first and second argument of methods that do not take every value.
@@ -174,6 +178,9 @@ const FUNCTION_COUNTS: &[(&'static str, &'static str)] = &[
     ("max", "at least one value"),
     ("min", "at least one value"),
     ("range", "one to three ints"),
+    ("getattr", "two or three values"),
+    ("hasattr", "two values"),
+    ("struct", "values by name alone"),
 ];
 
 /// How many values methods take, if not one.

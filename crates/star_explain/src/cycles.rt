@@ -145,6 +145,7 @@ impl Cycles {
         let label = label_of(files, next);
         Ok(Some(Entry {
             mark: mark_of_line(files, last, line),
+            is_certain: true,
             code: "load",
             text: closing(alloc, label)?,
             notes: notes_of(alloc, files, ends, naming, ordered.as_slice())?,

@@ -3,13 +3,13 @@
 
 use crate::texts::{Said, Saying};
 use crate::trail::Trail;
-use crate::words::{Words, tokens_of};
+use crate::words::{Lexicon, file_of};
 use star_check::verdict::{Judged, Verdict};
 use star_found::about::Found;
 use star_label::files::Files;
 use star_meaning::fault::FaultCode;
 use star_meaning::story::Step;
-use star_mistakes::place::{Mark, text_of, whole};
+use star_mistakes::place::{Mark, whole};
 use star_outcome::module::{Ended, Left, Module};
 use star_outcome::outcome::Run;
 use star_reading::code::StaticFault;
@@ -70,27 +70,27 @@ impl EvalError {
     fn tell(
         &mut self,
         alloc: Global,
-        files: &Files,
+        lexicon: &mut Lexicon<'_>,
         code: FaultCode,
         found: &Found,
     ) -> Result<(), AllocError> {
-        let Some((file, tokens)) = tokens_of(alloc, files, self.steps())? else {
+        let Some(innermost) = self.steps().first().copied() else {
             return Ok(());
         };
-        let words = Words {
-            file,
-            text: text_of(files, file),
-            tokens: tokens.as_slice(),
+        let Some(words) = lexicon.words(file_of(innermost))? else {
+            return Ok(());
         };
         let saying = Saying {
             alloc,
             code,
             found,
-            module: words.module(found.at),
+            module: words.module(found),
+            bound_on: words.line_of_global(found),
         };
+        let mark = words.of(self.steps(), found);
         self.told = saying.said()?;
-        if self.told.is_some() {
-            self.mark = words.of(found);
+        if self.told.is_some() || code == FaultCode::Fail {
+            self.mark = mark;
         }
         Ok(())
     }
@@ -141,7 +141,7 @@ fn end_of(module: &Module) -> End {
 /// The remains of the run of a module. The words of `fail` are its last line.
 fn stop_of(
     alloc: Global,
-    files: &Files,
+    lexicon: &mut Lexicon<'_>,
     reads: &Reads,
     module: &Module,
 ) -> Result<EvalError, AllocError> {
@@ -163,7 +163,7 @@ fn stop_of(
         }
     }
     if let Some(found) = found {
-        stop.tell(alloc, files, *code, found)?;
+        stop.tell(alloc, lexicon, *code, found)?;
     }
     Ok(stop)
 }
@@ -194,10 +194,11 @@ impl Ends {
         run: &mut Run,
     ) -> Result<Ends, AllocError> {
         let mut all = Ends::new(alloc, files.len())?;
+        let mut lexicon = Lexicon::new(alloc, files);
         for i in 0..run.len() {
             let note = run.note(i);
             let module = run.module(i, note);
-            all.add(alloc, files, reads, module)?;
+            all.add(alloc, &mut lexicon, reads, module)?;
         }
         Ok(all)
     }
@@ -205,7 +206,7 @@ impl Ends {
     fn add(
         &mut self,
         alloc: Global,
-        files: &Files,
+        lexicon: &mut Lexicon<'_>,
         reads: &Reads,
         module: &Module,
     ) -> Result<(), AllocError> {
@@ -215,7 +216,7 @@ impl Ends {
         if let Some(loads) = self.loads.get_mut(n) {
             loads.extend_from_slice(module.loads.as_slice())?;
         }
-        let stop = stop_of(alloc, files, reads, module)?;
+        let stop = stop_of(alloc, lexicon, reads, module)?;
         if let Some(place) = self.stops.get_mut(n) {
             *place = stop;
         }

@@ -15,6 +15,8 @@ const NAMED: usize = 3;
 #[derive(Drop)]
 pub(crate) struct Entry {
     pub mark: Mark,
+    /// Whether the place is certain, and carets stand below it; else its line is shown alone.
+    pub is_certain: bool,
     pub code: &'static str,
     pub text: String,
     /// Lines below the source line, each with its end.
@@ -24,6 +26,17 @@ pub(crate) struct Entry {
     pub root: Option<usize>,
     /// Further files whose runs stop here, for the same reason.
     pub more: Vec<usize>,
+}
+
+/// What is shown of a source line and the carets below it: the line alone if its place is not certain.
+fn shown(lines: &str, is_certain: bool) -> &str {
+    if is_certain {
+        return lines;
+    }
+    match lines.find('\n') {
+        Some(end) => lines.get(..end).unwrap_or(lines),
+        None => lines,
+    }
 }
 
 impl Entry {
@@ -37,6 +50,7 @@ impl Entry {
         } = mistake;
         Entry {
             mark,
+            is_certain: true,
             code,
             text,
             notes: String::new(alloc),
@@ -69,11 +83,23 @@ impl Entry {
         push_message(all, &told)?;
         let mut lines = String::new(alloc);
         push_source(&mut lines, alloc, files, self.mark)?;
-        push_lines(all, lines.as_str(), form.is_colored)?;
+        push_lines(all, shown(lines.as_str(), self.is_certain), form.is_colored)?;
+        self.push_below(all, files, form.is_colored, failing)?;
+        all.push('\n')
+    }
+
+    /// Writes the lines below the source line: the notes, the help, and which files stop here or fail by it.
+    pub(crate) fn push_below(
+        &self,
+        all: &mut String,
+        files: &Files,
+        is_colored: bool,
+        failing: &[usize],
+    ) -> Result<(), AllocError> {
         all.push_str(self.notes.as_str())?;
         if let Some(help) = &self.help {
             all.push_str("  ")?;
-            push_colored(all, "help", Color::Cyan, form.is_colored)?;
+            push_colored(all, "help", Color::Cyan, is_colored)?;
             let cure = [
                 Part::Plain(": "),
                 Part::Plain(help.as_str()),
@@ -82,8 +108,7 @@ impl Entry {
             push_message(all, &cure)?;
         }
         push_files(all, files, self.more.as_slice(), MORE)?;
-        push_files(all, files, failing, FAIL)?;
-        all.push('\n')
+        push_files(all, files, failing, FAIL)
     }
 }
 

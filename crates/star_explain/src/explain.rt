@@ -4,9 +4,10 @@ use crate::cycles::Cycles;
 use crate::ends::{End, Ends, EvalError};
 use crate::entry::{Entry, owned};
 use crate::pages::page_of;
+use crate::tools::{log_of, push_command, result_of};
 use crate::trail::{callers, mark_of_line};
+use crate::words::Lexicon;
 use star_check::verdict::Judged;
-use star_label::files::Files;
 use star_meaning::fault::FaultCode;
 use star_mistakes::message::{Part, message, push_message};
 use star_mistakes::place::{Mark, Naming};
@@ -19,9 +20,21 @@ use std::alloc::{AllocError, Global};
 /// How many entries are shown, unless all are asked for.
 const ENTRIES: usize = 20;
 
+/// For whom the entries are written.
+#[derive(Clone, Copy, Debug, PartialEq, Eq)]
+pub enum Style {
+    /// For a person.
+    Text,
+    /// As workflow commands of GitHub, a line each.
+    Github,
+    /// As one log of SARIF.
+    Sarif,
+}
+
 /// Which entries are shown, and how.
 #[derive(Clone, Copy, Debug)]
 pub struct Form {
+    pub style: Style,
     /// How files are named.
     pub naming: Naming,
     /// All entries are shown.
@@ -34,6 +47,7 @@ pub struct Form {
 #[derive(Drop)]
 struct Telling<'a> {
     sources: Sources<'a>,
+    lexicon: Lexicon<'a>,
     form: Form,
     entries: Vec<Entry>,
     /// The number of files at fault, and cycles, that found no room.
@@ -134,21 +148,23 @@ impl<'a> Telling<'a> {
         stop: &EvalError,
     ) -> Result<(), AllocError> {
         let (alloc, files) = (self.sources.alloc, self.sources.files);
-        let place = match &stop.trail {
-            Some(trail) => trail.innermost(files),
-            None => mark_of_line(files, n, line),
+        let mark = match (stop.mark, &stop.trail) {
+            (Some(mark), _) => mark,
+            (None, Some(trail)) => trail.innermost(files, &mut self.lexicon)?,
+            (None, None) => mark_of_line(files, n, line),
         };
-        let mark = stop.mark.unwrap_or(place);
         let told = told_of(code, stop);
         let text = message(alloc, &[Part::Plain(told.front), Part::Plain(told.text)])?;
         if self.is_added(n, mark, text.as_str())? || !self.has_room() {
             return Ok(());
         }
+        let naming = self.form.naming;
         let entry = Entry {
             mark,
+            is_certain: stop.mark.is_some(),
             code: code_text(code),
             text,
-            notes: callers(alloc, files, self.form.naming, stop.steps())?,
+            notes: callers(alloc, files, &mut self.lexicon, naming, stop.steps())?,
             help: owned(alloc, told.help)?,
             root: Some(n),
             more: Vec::new(alloc),
@@ -313,7 +329,29 @@ impl<'a> Telling<'a> {
         Ok(())
     }
 
-    /// The text of all entries: empty if there is no entry.
+    /// All entries as workflow commands.
+    fn commands(&self, ways: &Ways) -> Result<String, AllocError> {
+        let (alloc, files) = (self.sources.alloc, self.sources.files);
+        let mut all = String::new(alloc);
+        for entry in &self.entries {
+            let failing = ways.failing(alloc, entry)?;
+            push_command(&mut all, alloc, files, entry, failing.as_slice())?;
+        }
+        Ok(all)
+    }
+
+    /// All entries as a log of SARIF.
+    fn log(&self, ways: &Ways) -> Result<String, AllocError> {
+        let (alloc, files) = (self.sources.alloc, self.sources.files);
+        let mut results = Vec::new(alloc);
+        for entry in &self.entries {
+            let failing = ways.failing(alloc, entry)?;
+            results.push(result_of(alloc, files, entry, failing.as_slice())?)?;
+        }
+        log_of(alloc, self.entries.as_slice(), results)
+    }
+
+    /// The text of all entries for a person: empty if there is no entry.
     fn text(&self, ways: &Ways) -> Result<String, AllocError> {
         let (alloc, files) = (self.sources.alloc, self.sources.files);
         let mut all = String::new(alloc);
@@ -337,39 +375,36 @@ impl<'a> Telling<'a> {
     }
 }
 
-/// The text for a person on a run: empty if no file is at fault.
+/// The text on a run in its form: for a person empty if no file is at fault.
 pub fn explain(
-    alloc: Global,
-    files: &Files,
+    sources: Sources<'_>,
     reads: &Reads,
     run: &mut Run,
     roots: &[usize],
-    prelude: Option<usize>,
     form: Form,
 ) -> Result<String, AllocError> {
-    let sources = Sources::new(alloc, files, prelude);
-    told(sources, Ends::of(alloc, files, reads, run)?, roots, form)
+    let ends = Ends::of(sources.alloc, sources.files, reads, run)?;
+    told(sources, ends, roots, form)
 }
 
-/// The text for a person on files that were read and not run: empty if there is nothing against any.
+/// The text on files that were read and not run: for a person empty if there is nothing against any.
 pub fn explain_check(
-    alloc: Global,
-    files: &Files,
+    sources: Sources<'_>,
     reads: &Reads,
     judged: &[Judged],
     roots: &[usize],
-    prelude: Option<usize>,
     form: Form,
 ) -> Result<String, AllocError> {
-    let ends = Ends::of_check(alloc, files, reads, judged)?;
-    told(Sources::new(alloc, files, prelude), ends, roots, form)
+    let ends = Ends::of_check(sources.alloc, sources.files, reads, judged)?;
+    told(sources, ends, roots, form)
 }
 
-/// The text for a person on files with these ends.
+/// The text on files with these ends.
 fn told(sources: Sources, ends: Ends, roots: &[usize], form: Form) -> Result<String, AllocError> {
     let alloc = sources.alloc;
     let mut telling = Telling {
         sources,
+        lexicon: Lexicon::new(alloc, sources.files),
         form,
         entries: Vec::new(alloc),
         more: 0,
@@ -383,5 +418,9 @@ fn told(sources: Sources, ends: Ends, roots: &[usize], form: Form) -> Result<Str
     }
     let ways = Ways::of(alloc, ends, roots)?;
     telling.cycles(&ways)?;
-    telling.text(&ways)
+    match form.style {
+        Style::Text => telling.text(&ways),
+        Style::Github => telling.commands(&ways),
+        Style::Sarif => telling.log(&ways),
+    }
 }

@@ -5,6 +5,54 @@ use star_found::about::Type;
 /// The help for methods that are missing, by the type of their value.
 const METHODS: &[(Type, &'static str, &'static str)] = &[
     (Type::Text, "encode", "a string is UTF-8 already"),
+    (
+        Type::Text,
+        "capitalize",
+        "write `s[:1].upper() + s[1:].lower()`",
+    ),
+    (Type::Text, "count", "write `len(s.split(x)) - 1`"),
+    (Type::Text, "elems", "write `[s[i] for i in range(len(s))]`"),
+    (
+        Type::Text,
+        "index",
+        "write `s.find(x)`, which is -1 for none",
+    ),
+    (
+        Type::Text,
+        "isdigit",
+        "write `s != \"\" and s.strip(\"0123456789\") == \"\"`",
+    ),
+    (
+        Type::Text,
+        "partition",
+        "write `i = s.find(x)`, then `s[:i]` and `s[i + len(x):]`",
+    ),
+    (
+        Type::Text,
+        "removeprefix",
+        "write `s[len(x):] if s.startswith(x) else s`",
+    ),
+    (
+        Type::Text,
+        "removesuffix",
+        "write `s[:len(s) - len(x)] if s.endswith(x) else s`",
+    ),
+    (
+        Type::Text,
+        "rfind",
+        "write `s.split(x)`, and take its parts from the end",
+    ),
+    (
+        Type::Text,
+        "rsplit",
+        "write `s.split(x)`, and take its parts from the end",
+    ),
+    (Type::Text, "splitlines", "write `s.split(\"\\n\")`"),
+    (
+        Type::Text,
+        "title",
+        "write `\" \".join([w[:1].upper() + w[1:].lower() for w in s.split(\" \")])`",
+    ),
     (Type::Dict, "has_key", "write `key in d`"),
     (Type::Dict, "iteritems", "write `d.items()`"),
     (Type::Dict, "copy", "write `dict(d)`"),

@@ -3,11 +3,12 @@
 //! `explain::explain` goes over the ends of all reached files (`ends`) and makes a text with an entry for each cause
 //! (`entry`): a static fault (`star_mistakes`), a run that stopped, a cycle of loads (`cycles`). Files that fail by a
 //! load are counted under the cause to which their loads lead. `trail` finds where a run stopped, and by which calls.
-//! If it is known what a fault is about, `words` finds the word, and `texts` says what is wrong with it (`built_ins`
-//! has the arguments that built-in functions take, `instead` what to write in place of what is missing). Else the text comes from `pages`, which has the meaning of each
-//! code.
+//! If it is known what a fault is about, `words` finds the word (`stretches` the tokens of the expression that has it),
+//! and `texts` says what is wrong with it (`built_ins` has the arguments that built-in functions take, `instead` what to
+//! write in place of what is missing). Else the text comes from `pages`, which has the meaning of each code.
 //!
-//! - `Form` says which entries are shown, how files are named, and whether there are colours (`paint`).
+//! - `Form` says for whom (`tools` has the forms of GitHub and SARIF), which entries are shown, how files are named, and
+//!   whether there are colours (`paint`).
 //! - `pages` has a `Page` for each code of a fault: its meaning and an example, for `--explain-code`.
 //!
 //! No report rests on any of this. It is proved to be safe and to end. The trail of a run that it prints is proved to
@@ -22,6 +23,8 @@ pub mod explain;
 mod instead;
 pub mod pages;
 mod paint;
+mod stretches;
 mod texts;
+mod tools;
 mod trail;
 mod words;

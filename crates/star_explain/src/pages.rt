@@ -1,4 +1,4 @@
-//! The pages of the codes of faults: their meaning, as `--explain-code` prints it and `docs/DIAGNOSTICS.md` has it.
+//! The pages of the codes of faults: their meaning, as `--explain-code` prints it and `docs/EXPLAIN.md` has it.
 
 /// A code of a fault.
 #[derive(Clone, Copy)]

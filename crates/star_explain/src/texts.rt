@@ -27,6 +27,8 @@ pub(crate) struct Saying<'a> {
     pub found: &'a Found,
     /// The string of the load statement, if the fault is in one.
     pub module: &'a str,
+    /// The line on which a global that has no value gets one, if it is known.
+    pub bound_on: Option<usize>,
 }
 
 /// A call of a built-in function, or of a method: the values that were found, and how many arguments are given.
@@ -52,6 +54,7 @@ fn with_article(value: &Shown) -> &'static str {
         Type::Function => "a function",
         Type::Nothing => "None",
         Type::BuiltIn => "a built-in function",
+        Type::Struct => "a struct",
         Type::Other => "a value",
     }
 }
@@ -88,6 +91,14 @@ fn unmet<'v>(wanted: Wanted, value: Option<&'v Shown>) -> Option<&'v Shown> {
         _ => None,
     }
 }
+
+/// Whether a field is a letter after a `%` that is not known.
+fn is_letter(field: &str) -> bool {
+    field.starts_with('%') && !matches!(field, "%s" | "%r" | "%d")
+}
+
+/// The help for an item of a dictionary that is no pair.
+const ITEMS: &str = "a loop over a dict takes its keys: write `for k, v in d.items()`";
 
 impl<'a> Saying<'a> {
     /// A text of these parts.
@@ -416,16 +427,22 @@ impl<'a> Saying<'a> {
         if call.first.is_none() {
             return Ok(None);
         }
+        if let ("getattr", Some(value), Some(name)) = (call.name, call.first, call.second) {
+            return self.no_attribute(unquoted(name.text.as_str()), value);
+        }
         let text = match call.name {
             "join" => "` takes strings alone",
             "dict" | "update" => "` takes a dict, or an iterable of pairs",
             "sorted" => "` takes ints alone or strings alone",
             "max" | "min" => return self.ordered(call),
-            "print" | "fail" => return self.of_built_in(
-                call.name,
-                "` takes a string as `sep`",
-                None,
-            ),
+            "print" | "fail" => {
+                return match call.first {
+                    Some(first) => {
+                        self.before_typed("`", call.name, "` takes a string as `sep`, not ", first)
+                    }
+                    None => Ok(None),
+                };
+            }
             _ => "` does not take this",
         };
         self.of_built_in(call.name, text, call.first)
@@ -461,6 +478,8 @@ impl<'a> Saying<'a> {
         let first = call.first;
         match call.name {
             "int" => self.with_first("`int` reads no number here", first),
+            "ord" => self.with_first("`ord` takes a string of one character", first),
+            "chr" => self.with_first("no character has this number", first),
             "range" => self.with_first("the step of a `range` cannot be 0", None),
             "max" | "min" => self.of_built_in(call.name, "` of nothing", first),
             "index" | "remove" => self.with_first("no item of the list is equal", first),
@@ -563,32 +582,60 @@ impl<'a> Saying<'a> {
         ])
     }
 
+    /// The text on a field of a format.
+    fn field<'x>(
+        self,
+        field: &'x str,
+        value: Option<&'x Shown>,
+    ) -> Result<Option<String>, AllocError> {
+        match value {
+            Some(value) => self.before_typed("`", field, "` takes an int, not ", value),
+            None if is_letter(field) => self.with_word("there is no format `", field, "`"),
+            None => self.with_word("the field `", field, "` gets no value"),
+        }
+    }
+
     /// The text on a name that the file of a load statement does not have.
     fn no_global(self, name: &'a str) -> Result<Option<String>, AllocError> {
         self.misfit_of(self.module, "` has no global `", name, "`")
     }
 
+    /// The text on an attribute that a value does not have: only a struct has others than methods.
+    fn no_attribute<'x>(
+        self,
+        name: &'x str,
+        value: &'x Shown,
+    ) -> Result<Option<String>, AllocError> {
+        let text = match value.of {
+            Type::Struct => " has no attribute `",
+            _ => " has no method `",
+        };
+        self.text_of(&[
+            Part::Plain(value.type_name()),
+            Part::Plain(text),
+            Part::Shown(name),
+            Part::Plain("`"),
+        ])
+    }
+
     /// The text on a fault.
     fn text(self) -> Result<Option<String>, AllocError> {
         match &self.found.about {
-            About::Name(name) => self.with_word("`", name.as_str(), "` has no value yet"),
+            About::Name { name, .. } => self.with_word("`", name.as_str(), "` has no value yet"),
             About::Loaded(name) => self.no_global(name.as_str()),
-            About::Attribute { name, value, .. } => self.text_of(&[
-                Part::Plain(value.type_name()),
-                Part::Plain(" has no method `"),
-                Part::Shown(name.as_str()),
-                Part::Plain("`"),
-            ]),
+            About::Attribute { name, value, .. } => self.no_attribute(name.as_str(), value),
             About::Index { value, at, items } => self.index(value, at, *items),
             About::Slice { value } => self.slice(value),
             About::Operands { sign, left, right } => self.operands(sign.as_str(), left, right),
             About::Operand { sign, value } => self.operand(sign.as_str(), value),
-            About::Iterable { value } => self.of_kind(value, " cannot be gone over"),
+            About::Iterable { value, .. } => self.of_kind(value, " cannot be gone over"),
             About::Unpacked {
                 value,
                 items,
                 targets,
+                ..
             } => self.unpacked(value, *items, *targets),
+            About::Field { field, value } => self.field(field.as_str(), value.as_ref()),
             About::Key { key } => self.key(key),
             About::Call { callee, misfit, .. } => self.call(callee, misfit),
             About::BuiltIn {
@@ -667,8 +714,11 @@ impl<'a> Saying<'a> {
     }
 
     /// The cure of arguments that do not fit.
-    fn fitting(self, misfit: &Misfit) -> Result<Option<String>, AllocError> {
+    fn fitting(self, callee: &Shown, misfit: &Misfit) -> Result<Option<String>, AllocError> {
         if let Misfit::Unknown(word) = misfit {
+            if callee.of == Type::BuiltIn && word.as_str() == "key" {
+                return self.known(of_arguments(callee.text.as_str(), 1));
+            }
             if let Some(help) = self.near(word.as_str())? {
                 return Ok(Some(help));
             }
@@ -686,11 +736,18 @@ impl<'a> Saying<'a> {
 
     /// The cure of an attribute that a value does not have.
     fn attribute(self, name: &str, kind: Type) -> Result<Option<String>, AllocError> {
-        if is_extended(name, kind) {
-            return self.known(Some("the extended language has it: `--language extended`"));
+        if kind == Type::Struct {
+            return self.near(name);
         }
-        if let Some(help) = of_method(kind, name) {
-            return self.known(Some(help));
+        match (of_method(kind, name), is_extended(name, kind)) {
+            (Some(help), true) => {
+                return self.with_word(help, "", "; `--language extended` has it");
+            }
+            (None, true) => {
+                return self.known(Some("the extended language has it: `--language extended`"));
+            }
+            (Some(help), false) => return self.known(Some(help)),
+            (None, false) => {}
         }
         match did_you_mean(self.alloc, name, methods(kind))? {
             None if kind == Type::Dict => self.with_word("a key is read as `[\"", name, "\"]`"),
@@ -701,6 +758,14 @@ impl<'a> Saying<'a> {
     /// The cure.
     fn help(self) -> Result<Option<String>, AllocError> {
         match &self.found.about {
+            About::Name { .. } => match self.bound_on {
+                Some(line) => self.text_of(&[
+                    Part::Plain("it gets its value on line "),
+                    Part::Number(line),
+                    Part::Plain(": use it below"),
+                ]),
+                None => Ok(None),
+            },
             About::Loaded(name) => self.near(name.as_str()),
             About::Attribute { name, value, .. } => self.attribute(name.as_str(), value.of),
             About::BuiltIn { name, given, .. } if self.code == FaultCode::Args => {
@@ -712,11 +777,20 @@ impl<'a> Saying<'a> {
                     None => self.lacking(),
                 }
             }
+            About::Index { value, at, .. } if value.of == Type::Struct && at.of == Type::Text =>
+                self.with_word("a field is read as `x.", unquoted(at.text.as_str()), "`"),
             About::Operands { sign, left, right } => self.converted(sign.as_str(), left, right),
             About::Call {
+                callee,
                 misfit: Some(misfit),
-                ..
-            } => self.fitting(misfit),
+            } => self.fitting(callee, misfit),
+            About::Iterable { of, .. } | About::Unpacked { of, .. } if *of == Some(Type::Dict) => {
+                self.known(Some(ITEMS))
+            }
+            About::Field { field, .. } if is_letter(field.as_str()) => {
+                self.known(Some("a format has `%s`, `%r`, `%d` and `%%`"))
+            }
+            About::Field { .. } => Ok(None),
             _ if matches!(self.code, FaultCode::Key | FaultCode::Index) => self.lacking(),
             _ => Ok(None),
         }

@@ -4,9 +4,10 @@ ghost use Rattle.std.proofs.Props.{props};
 ghost use Rattle.std.specs.Prelude.{◌≡◌, IfOk};
 ghost use Rattle.star_explain.specs.Trail as spec;
 
+use crate::words::{Lexicon, file_of};
 use star_label::files::Files;
 use star_meaning::story::Step;
-use star_mistakes::place::{Line, Mark, Naming, push_place, text_of};
+use star_mistakes::place::{Line, Mark, Naming, push_column, push_place, text_of};
 use std::alloc::{AllocError, Global};
 
 /// How many calls are listed.
@@ -70,14 +71,24 @@ impl Trail {
         self.steps.as_slice()
     }
 
-    /// The place of the innermost statement.
-    pub(crate) fn innermost(&self, files: &Files) -> Mark {
-        for step in self.steps() {
-            if let Some((file, line)) = statement(*step) {
-                return mark_of_line(files, file, line);
+    /// The line of the innermost statement, or of the lambda whose expression stopped.
+    pub(crate) fn innermost(
+        &self,
+        files: &Files,
+        lexicon: &mut Lexicon<'_>,
+    ) -> Result<Mark, AllocError> {
+        let (file, line) = match self.steps().first().copied() {
+            Some(Step::Statement { file, line, .. }) => (usize::try_from(file).unwrap_or(0), line),
+            Some(Step::Call { file, number }) => {
+                let file = usize::try_from(file).unwrap_or(0);
+                match lexicon.words(file)? {
+                    Some(words) => (file, words.line(number)),
+                    None => (self.home, self.line),
+                }
             }
-        }
-        mark_of_line(files, self.home, self.line)
+            _ => (self.home, self.line),
+        };
+        Ok(mark_of_line(files, file, line))
     }
 }
 
@@ -94,35 +105,65 @@ fn statement(step: Step) -> Option<(usize, usize)> {
     }
 }
 
-/// The statements whose calls led to the innermost one, a line each.
+/// The steps that have the calls which led to the innermost statement: of each call its name, else its statement.
+fn calls_of(alloc: Global, steps: &[Step]) -> Result<Vec<Step>, AllocError> {
+    let mut calls = Vec::new(alloc);
+    let mut is_left = false;
+    for step in steps {
+        match *step {
+            Step::Call { .. } => is_left = true,
+            Step::Statement { .. } | Step::From { .. } if is_left => {
+                is_left = false;
+                calls.push(*step)?;
+            }
+            Step::Statement { .. } | Step::From { .. } => {}
+        }
+    }
+    Ok(calls)
+}
+
+/// The place of a call; `None` if only its statement is known.
+fn place_of(lexicon: &mut Lexicon<'_>, call: Step) -> Result<Option<Mark>, AllocError> {
+    let Some(words) = lexicon.words(file_of(call))? else {
+        return Ok(None);
+    };
+    let token = match call {
+        Step::From { token, .. } => Some(token),
+        Step::Statement { token, .. } => words.lone_call(token),
+        Step::Call { .. } => None,
+    };
+    match token {
+        Some(token) => Ok(words.mark(token)),
+        None => Ok(None),
+    }
+}
+
+/// The calls that led to the innermost statement, a line each.
 pub(crate) fn callers(
     alloc: Global,
     files: &Files,
+    lexicon: &mut Lexicon<'_>,
     naming: Naming,
     steps: &[Step],
 ) -> Result<String, AllocError> {
     let mut notes = String::new(alloc);
-    let mut is_left = false;
-    let mut count: usize = 0;
-    for step in steps {
-        if matches!(step, Step::Call { .. }) {
-            is_left = true;
-        }
-        let Some((file, line)) = statement(*step) else {
-            continue;
+    let calls = calls_of(alloc, steps)?;
+    for call in calls.iter().take(CALLS) {
+        let place = place_of(lexicon, *call)?;
+        let mark = match (place, statement(*call)) {
+            (Some(mark), _) => mark,
+            (None, Some((file, line))) => mark_of_line(files, file, line),
+            (None, None) => continue,
         };
-        if !is_left {
-            continue;
-        }
-        is_left = false;
-        count = count.saturating_add(1);
-        if count > CALLS {
-            notes.push_str("  ..\n")?;
-            break;
-        }
         notes.push_str("  called from ")?;
-        push_place(&mut notes, files, mark_of_line(files, file, line), naming)?;
+        push_place(&mut notes, files, mark, naming)?;
+        if place.is_some() {
+            push_column(&mut notes, files, mark)?;
+        }
         notes.push('\n')?;
+    }
+    if calls.len() > CALLS {
+        notes.push_str("  ..\n")?;
     }
     Ok(notes)
 }

@@ -1,6 +1,7 @@
 //! The word of a text that a fault is about.
 
-use star_found::about::{About, Found};
+use crate::stretches::Stretch;
+use star_found::about::{About, Found, Place};
 use star_label::files::Files;
 use star_lex::lex;
 use star_lex::token::{Keyword, Kind, Punctuator, Token};
@@ -8,38 +9,18 @@ use star_meaning::story::Step;
 use star_mistakes::place::{Mark, mark_of, text_of, word_of};
 use std::alloc::{AllocError, Global};
 
+/// The tokens of at most this many files are kept.
+const KEPT: usize = 8;
+
+/// At most this many tokens are kept, but for those of one file.
+const TOKENS: usize = 1_000_000;
+
 /// The tokens of a file, and its text.
 #[derive(Clone, Copy)]
 pub(crate) struct Words<'a> {
     pub file: usize,
     pub text: &'a str,
     pub tokens: &'a [Token],
-}
-
-/// By how much a token opens or closes brackets.
-fn opens(kind: Kind) -> bool {
-    matches!(
-        kind,
-        Kind::Punctuator(Punctuator::LeftParen | Punctuator::LeftBracket | Punctuator::LeftBrace)
-    )
-}
-
-fn closes(kind: Kind) -> bool {
-    matches!(
-        kind,
-        Kind::Punctuator(Punctuator::RightParen | Punctuator::RightBracket | Punctuator::RightBrace)
-    )
-}
-
-/// Whether a token ends the value that a loop goes over, or the targets that are bound.
-fn ends_part(kind: Kind) -> bool {
-    matches!(
-        kind,
-        Kind::Punctuator(Punctuator::Colon | Punctuator::Assign | Punctuator::Comma)
-            | Kind::Keyword(Keyword::In | Keyword::For | Keyword::If)
-            | Kind::Newline
-            | Kind::End
-    )
 }
 
 /// A string without its quotes.
@@ -56,26 +37,32 @@ impl<'a> Words<'a> {
         }
     }
 
-    fn kind(self, at: usize) -> Kind {
+    /// The kind of a token; `End` after the last.
+    pub(crate) fn kind(self, at: usize) -> Kind {
         match self.tokens.get(at) {
             Some(token) => token.kind,
             None => Kind::End,
         }
     }
 
+    /// The line of a token; 1 without such a token.
+    pub(crate) fn line(self, at: usize) -> usize {
+        match self.tokens.get(at) {
+            Some(token) => token.line,
+            None => 1,
+        }
+    }
+
     /// The token itself.
-    fn mark(self, at: usize) -> Option<Mark> {
+    pub(crate) fn mark(self, at: usize) -> Option<Mark> {
         let token = self.tokens.get(at)?;
         Some(mark_of(self.file, token))
     }
 
-    /// The tokens from one up to, but without, another.
-    fn marks(self, from: usize, to: usize) -> Option<Mark> {
-        if to <= from {
-            return None;
-        }
-        let first = self.mark(from)?;
-        let last = self.mark(to.saturating_sub(1))?;
+    /// All of some tokens.
+    fn whole(self, part: Stretch) -> Option<Mark> {
+        let first = self.mark(part.start)?;
+        let last = self.mark(part.end.checked_sub(1)?)?;
         Some(Mark {
             file: self.file,
             start: first.start,
@@ -83,124 +70,140 @@ impl<'a> Words<'a> {
         })
     }
 
-    /// The first token from one on of this logical line with a word.
-    fn find(self, from: usize, word: &str) -> Option<usize> {
-        for at in from..self.tokens.len() {
-            if self.word(at) == word {
-                return Some(at);
-            }
-            if self.kind(at) == Kind::Newline {
-                break;
-            }
-        }
-        None
-    }
-
-    /// The last token from one on of this logical line which is this text of a value.
-    fn find_value(self, from: usize, text: &str) -> Option<usize> {
-        let mut found = None;
-        for at in from..self.tokens.len() {
-            if unquoted(self.word(at)) == unquoted(text) {
-                found = Some(at);
-            }
-            if self.kind(at) == Kind::Newline {
-                break;
-            }
-        }
-        found
-    }
-
-    /// The token before which the brackets close that are open at a token, or if `is_part`, the part ends that begins
-    /// there.
-    fn end_of(self, from: usize, is_part: bool) -> usize {
-        let mut depth: usize = 0;
-        for at in from..self.tokens.len() {
-            let kind = self.kind(at);
-            if opens(kind) {
-                depth = depth.saturating_add(1);
-            } else if depth == 0 && (closes(kind) || (is_part && ends_part(kind))) {
-                return at;
-            } else if closes(kind) {
-                depth = depth.saturating_sub(1);
-            }
-        }
-        from
-    }
-
-    /// Whether a token is the bracket of an index or of a slice: it comes after the end of a value.
-    fn is_index(self, at: usize) -> bool {
-        let before = self.kind(at.saturating_sub(1));
-        self.word(at) == "[" && (closes(before) || matches!(before, Kind::Name | Kind::Text))
-    }
-
-    /// The words in the brackets of the first index or slice from a token on.
-    fn in_brackets(self, from: usize) -> Option<Mark> {
-        for at in from..self.tokens.len() {
-            if self.is_index(at) {
-                let first = at.saturating_add(1);
-                return self.marks(first, self.end_of(first, false));
-            }
-        }
-        None
-    }
-
-    /// The first sign from a token on.
-    fn sign(self, from: usize, sign: &str) -> Option<Mark> {
-        if sign == "not in" {
-            let at = self.find(from, "not")?;
-            return self.marks(at, at.saturating_add(2));
-        }
-        self.mark(self.find(from, sign)?)
-    }
-
-    /// The words for the value that a loop goes over or that is unpacked.
-    fn source(self, from: usize) -> Option<Mark> {
-        let sign = match self.find(from, "in") {
-            Some(at) => at,
-            None => self.find(from, "=")?,
+    /// The sign between the operands of an expression, if it is this one.
+    fn between(self, part: Stretch, sign: &str) -> Option<Mark> {
+        let found = self.sign(self.bare(part))?;
+        let is_it = match sign {
+            "not in" => self.kind(found.start) == Kind::Keyword(Keyword::Not),
+            _ => self.word(found.start) == sign,
         };
-        let first = sign.saturating_add(1);
-        self.marks(first, self.end_of(first, true))
+        if is_it { self.whole(found) } else { None }
     }
 
-    /// The targets of an assignment or of a loop.
-    fn targets(self, from: usize) -> Option<Mark> {
-        let is_open = opens(self.kind(from));
-        let from = if is_open {
-            self.find(from, "for")?
+    /// The sign before an operand, if it is this one: the stars of an argument stand before the argument's value.
+    fn before(self, part: Stretch, sign: &str) -> Option<Mark> {
+        let at = match sign {
+            "*" | "**" => part.start.checked_sub(1)?,
+            _ => self.bare(part).start,
+        };
+        if self.word(at) == sign {
+            self.mark(at)
         } else {
-            from
-        };
-        if self.word(from) == "for" {
-            return self.marks(from.saturating_add(1), self.find(from, "in")?);
+            None
         }
-        self.marks(from, self.find(from, "=")?)
     }
 
-    /// The word that a fault is about.
-    pub(crate) fn of(self, found: &Found) -> Option<Mark> {
-        let at = found.at;
-        match &found.about {
-            About::Name(_) | About::Loaded(_) | About::Attribute { .. } | About::BuiltIn { .. } =>
-                self.mark(at),
-            About::Index { .. } | About::Slice { .. } => self.in_brackets(at),
-            About::Operands { sign, .. } | About::Operand { sign, .. } => self.sign(
-                at,
-                sign.as_str(),
+    /// What a fault is about, in the part that has it.
+    fn within(self, part: Stretch, about: &About) -> Option<Mark> {
+        match about {
+            About::Index { .. } | About::Slice { .. } => {
+                self.whole(self.in_last_brackets(self.bare(part))?)
+            }
+            About::Operands { sign, .. } => self.between(part, sign.as_str()),
+            About::Operand { sign, .. } => self.before(part, sign.as_str()),
+            About::Field { .. } => self.between(part, "%"),
+            About::Call { .. } | About::BuiltIn { .. } => {
+                self.mark(self.last_bracket(self.bare(part))?)
+            }
+            _ => self.whole(part),
+        }
+    }
+
+    /// The statement or the expression of a lambda that stopped.
+    fn root(self, innermost: Step) -> Option<Stretch> {
+        match innermost {
+            Step::Statement { token, .. } => self.statement(token),
+            Step::Call { number, .. } => self.answer(number),
+            Step::From { .. } => None,
+        }
+    }
+
+    /// The word that a fault is about; `None` if its place is not certain.
+    pub(crate) fn of(self, steps: &[Step], found: &Found) -> Option<Mark> {
+        match &found.place {
+            Place::Word(at) => self.mark(*at),
+            Place::Part(way) => {
+                let root = self.root(*steps.first()?)?;
+                self.within(self.part(root, way.as_slice())?, &found.about)
+            }
+        }
+    }
+
+    /// Whether a statement begins with a token.
+    fn begins(self, at: usize) -> bool {
+        match at.checked_sub(1) {
+            Some(before) => matches!(
+                self.kind(before),
+                Kind::Newline | Kind::Indent | Kind::Outdent
             ),
-            About::Iterable { .. } => self.source(at),
-            About::Unpacked { .. } => self.targets(at),
-            About::Key { key } => self.mark(self.find_value(at, key.text.as_str())?),
-            About::Call {
-                is_named: false,
-                ..
-            } => self.mark(self.find(at, "(")?),
-            About::Call { .. } => self.mark(at),
+            None => true,
         }
     }
 
-    /// The string of the load statement that has a token.
-    pub(crate) fn module(self, token: usize) -> &'a str {
+    /// Whether a token is a name that a statement of its own, a `for` or a `def` binds.
+    fn binds(self, at: usize) -> bool {
+        let before = at.saturating_sub(1);
+        let is_after = match self.kind(before) {
+            Kind::Keyword(Keyword::Def) => true,
+            Kind::Keyword(Keyword::For) => self.begins(before),
+            _ => false,
+        };
+        let is_assigned = self.begins(at)
+            && self.kind(at.saturating_add(1)) == Kind::Punctuator(Punctuator::Assign);
+        self.kind(at) == Kind::Name && (is_after || is_assigned)
+    }
+
+    /// The line on which a global gets its value after a token at which it has none; `None` if it is not found.
+    fn bound_on(self, token: usize) -> Option<usize> {
+        let mut depth: usize = 0;
+        let mut function = None;
+        for at in 0..self.tokens.len() {
+            let kind = self.kind(at);
+            let ends = self.begins(at) && !matches!(kind, Kind::Indent | Kind::Outdent);
+            if ends && function.is_some_and(|outside| depth <= outside) {
+                function = None;
+            }
+            if function.is_none()
+                && at > token
+                && self.binds(at)
+                && self.word(at) == self.word(token)
+            {
+                return Some(self.line(at));
+            }
+            match kind {
+                Kind::Indent => depth = depth.saturating_add(1),
+                Kind::Outdent => depth = depth.saturating_sub(1),
+                Kind::Name if function.is_none() => {
+                    let before = self.kind(at.saturating_sub(1));
+                    if before == Kind::Keyword(Keyword::Def) {
+                        function = Some(depth);
+                    }
+                }
+                _ => {}
+            }
+        }
+        None
+    }
+
+    /// The line on which the global at fault gets its value, if it has none yet.
+    pub(crate) fn line_of_global(self, found: &Found) -> Option<usize> {
+        match (&found.about, &found.place) {
+            (
+                About::Name {
+                    is_global: true,
+                    ..
+                },
+                Place::Word(token),
+            ) => self.bound_on(*token),
+            _ => None,
+        }
+    }
+
+    /// The string of the load statement that has the word at fault; empty if there is none.
+    pub(crate) fn module(self, found: &Found) -> &'a str {
+        let Place::Word(token) = found.place else {
+            return "";
+        };
         let mut module = "";
         for at in 0..token.min(self.tokens.len()) {
             if self.kind(at) == Kind::Keyword(Keyword::Load) {
@@ -211,26 +214,84 @@ impl<'a> Words<'a> {
     }
 }
 
-/// The file of the innermost step.
-fn file_of(steps: &[Step]) -> Option<usize> {
-    match *steps.first()? {
+/// The file of a step.
+pub(crate) fn file_of(step: Step) -> usize {
+    match step {
         Step::Statement { file, .. } | Step::From { file, .. } | Step::Call { file, .. } => {
-            usize::try_from(file).ok()
+            usize::try_from(file).unwrap_or(usize::MAX)
         }
     }
 }
 
-/// The tokens of the file that a run stopped in.
-pub(crate) fn tokens_of(
+/// The tokens of a file.
+#[derive(Drop)]
+struct Lexed {
+    file: usize,
+    tokens: Vec<Token>,
+}
+
+/// The tokens of the files that were looked at last.
+#[derive(Drop)]
+pub(crate) struct Lexicon<'a> {
     alloc: Global,
-    files: &Files,
-    steps: &[Step],
-) -> Result<Option<(usize, Vec<Token>)>, AllocError> {
-    let Some(file) = file_of(steps) else {
-        return Ok(None);
-    };
-    match lex(alloc, text_of(files, file)) {
-        Ok(tokens) => Ok(Some((file, tokens))),
-        Err(_) => Err(AllocError),
+    files: &'a Files,
+    kept: Vec<Lexed>,
+}
+
+impl<'a> Lexicon<'a> {
+    /// No tokens.
+    pub(crate) fn new(alloc: Global, files: &'a Files) -> Lexicon<'a> {
+        Lexicon {
+            alloc,
+            files,
+            kept: Vec::new(alloc),
+        }
+    }
+
+    /// The tokens of a file, which are taken out of those kept if they are among them.
+    fn taken(&mut self, file: usize) -> Result<Lexed, AllocError> {
+        for at in 0..self.kept.len() {
+            if self.kept.get(at).is_some_and(|lexed| lexed.file == file) {
+                return Ok(self.kept.remove(at));
+            }
+        }
+        match lex(self.alloc, text_of(self.files, file)) {
+            Ok(tokens) => Ok(Lexed { file, tokens }),
+            Err(_) => Err(AllocError),
+        }
+    }
+
+    /// The number of tokens that are kept.
+    fn size(&self) -> usize {
+        let mut size: usize = 0;
+        for lexed in &self.kept {
+            size = size.saturating_add(lexed.tokens.len());
+        }
+        size
+    }
+
+    /// Makes room for so many tokens: those of files that were not asked for lately are let go.
+    fn make_room(&mut self, count: usize) {
+        for _ in 0..KEPT {
+            let is_full = self.kept.len() >= KEPT || self.size().saturating_add(count) > TOKENS;
+            if is_full && !self.kept.is_empty() {
+                let _oldest = self.kept.remove(0);
+            }
+        }
+    }
+
+    /// The words of a file that has tokens.
+    pub(crate) fn words(&mut self, file: usize) -> Result<Option<Words<'_>>, AllocError> {
+        let lexed = self.taken(file)?;
+        self.make_room(lexed.tokens.len());
+        self.kept.push(lexed)?;
+        Ok(match self.kept.last() {
+            Some(lexed) => Some(Words {
+                file,
+                text: text_of(self.files, file),
+                tokens: lexed.tokens.as_slice(),
+            }),
+            None => None,
+        })
     }
 }

@@ -1,4 +1,4 @@
-//! The files of a folder by a walk through all of it (`docs/FOLDERS.md`).
+//! The files of a folder by a walk through all of it (`docs/USING.md`).
 //!
 //! - `Folder` is a trait: it lists folders and reads files, and its ghost members, which only contracts see, are its
 //!   content. `DiskFolder` is the disk, whose content no contract can know. `MemoryFolder` is a table, for tests and

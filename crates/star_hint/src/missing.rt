@@ -61,6 +61,26 @@ fn near_name(
     }
 }
 
+/// Lines about a folder that could not be listed: that it may not be, if the folder around it has it, else that it may
+/// not be there.
+fn about_folder<L: Listing>(
+    alloc: Global,
+    folder: &mut L,
+    package: &str,
+) -> Result<String, AllocError> {
+    let (outer, name) = package.rsplit_once('/').unwrap_or(("", package));
+    let is_there = match folder.entries(alloc, outer) {
+        Ok(entries) => kind_of(&entries, name) == Some(Kind::Folder),
+        Err(_) => false,
+    };
+    let package = shown(alloc, package)?;
+    if is_there {
+        format!(in alloc; "  the folder `{package}` may not be read\n")
+    } else {
+        format!(in alloc; "  there is no folder `{package}`, or it may not be listed\n")
+    }
+}
+
 /// Lines about the file of a label: that there is none, and the label of the file beside it that was probably meant.
 /// None if the file is there.
 pub fn about_file<L: Listing>(
@@ -71,10 +91,7 @@ pub fn about_file<L: Listing>(
     let package = label.package();
     let name = name_of(label);
     let Ok(entries) = folder.entries(alloc, package) else {
-        let package = shown(alloc, package)?;
-        return Ok(Some(format!(in alloc;
-            "  there is no folder `{package}`, or it may not be listed\n"
-        )?));
+        return Ok(Some(about_folder(alloc, folder, package)?));
     };
     let label_text = shown(alloc, label.text())?;
     if let Some(kind) = kind_of(&entries, name) {

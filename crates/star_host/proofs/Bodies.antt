@@ -125,7 +125,7 @@ ran_so plan table n home ss shelf ls prelude mode r may pays at loads is count n
 
     ready : AreReady (world_of home shelf table ls prelude mode.dialect) mode.steps
     ready = record {
-      programs = subst (ArePrograms table) (sym is) may.programs;
+      programs = subst (λ (m : Mode). ArePrograms table prelude m.dialect) (sym count) (subst (λ o. ArePrograms table o plan.mode.dialect) (sym is) may.programs);
       functions = subst (λ (m : Mode). AllFit (trees_of table) w (start w m.steps)) (sym count) (subst (λ (v : Setting). AllFit (trees_of table) v (start v plan.mode.steps)) (sym same) may.functions);
     }
 

@@ -60,7 +60,7 @@ impl<'s, 'r, 'p, 't> LoadContext<'s, 'r, 'p, 't> {
         ends: &'s [Option<GoodEnd>],
         options: RunOptions<'s>,
     ) -> LoadContext<'s, 'r, 'p, 't>
-        requires read { IsReadOf files.now options.roots.now options.prelude reads.now.all.items }
+        requires read { IsReadOf files.now options.roots.now options.prelude options.mode.dialect reads.now.all.items }
         requires programs { programs.now ≡ table_of reads.now.all.items }
         requires cells { length modules.now ≡ length files.now }
         requires prelude { IfSome options.prelude (λ p. p < length files.now) }

@@ -463,15 +463,17 @@ pub fn run_in<'t, R: Threads + Wait + Sync, G: Gate + Sync>(
     gate: &G,
 ) -> Result<Run, RunError>
     requires parses { AreParsesOf files.now known.parses.now }
-    requires reads { AreKnown files.now options.prelude reads.old.all.items }
+    requires reads { AreKnown files.now options.prelude options.mode.dialect reads.old.all.items }
     requires ends { let o = options in AreGoodEndsOf files.now o.roots.now o.prelude o.mode known.ends.now }
     requires roots { Within files.now options.roots.now }
     requires prelude { IfSome options.prelude (λ n. n < length files.now) }
     requires loaders { (1 ≤ options.loaders) × (options.loaders ≤ 64) }
     requires steps { (1 ≤ options.mode.steps) × (options.mode.steps ≤ 100000000) }
     ensures read { IfOk result (λ _.
-        IsReadOf files.now options.entry.roots.now options.entry.prelude reads.new.all.items) }
-    ensures others { IfOk result (λ _. AreKnown files.now options.entry.prelude reads.new.others.items) }
+        let o = options.entry in IsReadOf files.now o.roots.now o.prelude o.mode.dialect
+        reads.new.all.items) }
+    ensures others { let o = options.entry in
+        IfOk result (λ _. AreKnown files.now o.prelude o.mode.dialect reads.new.others.items) }
     ensures files { IfOk result (λ r. length r.cells ≡ length files.now) }
     ensures modules { let o = options.entry in
         IfOk result (λ r. AreModulesOf files.now o.roots.now o.prelude o.mode r.kept) }
@@ -493,6 +495,7 @@ pub fn run_in<'t, R: Threads + Wait + Sync, G: Gate + Sync>(
         files,
         trees: known.trees,
         parses: known.parses,
+        dialect: options.mode.dialect,
     };
     let before = mem::replace(reads, Reads::new(alloc));
     *reads = read_parsed(rt, alloc, texts, before, roots, prelude, readers)?;

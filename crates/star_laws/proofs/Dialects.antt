@@ -3,7 +3,7 @@ use Rattle.std.specs.Prelude.{◌≡◌, refl, ℕ, List, Option, Some, None}
 use Rattle.std.proofs.Common.{ap}
 use Rattle.star_dialect.specs.declared.Dialect.TheVariants as dialect
 use Rattle.star_store.specs.declared.names.Method.{Method}
-use Rattle.star_meaning.specs.Methods.{core_method_of, or_in_table}
+use Rattle.star_meaning.specs.Attributes.{core_method_of, or_in_table}
 use Rattle.star_strings.specs.Table.{named}
 use Rattle.star_meaning.specs.declared.fault.FaultCode.TheVariants as code
 use Rattle.star_meaning.specs.Run.{Action, ◌>>=◌, found}

@@ -11,8 +11,9 @@ use Rattle.star_store.specs.declared.values.Cell.{Cell}
 use Rattle.star_store.specs.declared.values.Cell.TheVariants as cell
 use Rattle.star_store.specs.declared.fault.StoreFault.TheVariants.{Steps}
 use Rattle.star_store.specs.Spend.{Spend, Spent, Enough, Lacks, answer, visited, spend_then, all_places}
-use Rattle.star_store.specs.Key.{all_pass, is_key, key_cell, key_value, same_key, same_key_cell, same_key_items, same_key_pair, same_key_place, same_key_value}
-use Rattle.star_store.specs.Equal.{same, same_cells, same_items, same_pair, same_place, same_values}
+use Rattle.star_store.specs.Fields.{Fields, names_of, same_names, values_of}
+use Rattle.star_store.specs.Key.{all_pass, is_key, key_cell, key_value, same_key, same_key_cell, same_key_fields, same_key_items, same_key_pair, same_key_place, same_key_value}
+use Rattle.star_store.specs.Equal.{same, same_cells, same_fields, same_items, same_pair, same_place, same_values}
 use Rattle.star_laws.specs.Keys.{Costs, OneIsKey}
 
 -- a relation between a visiting test and an answer that passes from the parts of a comparison to the whole
@@ -65,19 +66,28 @@ items P k f s g h xs ys e = of_lengths P k (nat_eq (length xs) (length ys)) (all
     one (inl e) i x y a b = inl (all_at g xs i x e a)
     one (inr e) i x y a b = inr (all_at g ys i y e b)
 
+-- structs: names first
+of_names : (P : Spend Bool → Bool → Type 0) → Passes P → (b : Bool) (m : Spend Bool) (c : Bool) → P m c → P (if b then m else answer false) (b && c)
+of_names P k true m c h = h
+of_names P k false m c h = k.answers false
+
+fields : (P : Spend Bool → Bool → Type 0) → Passes P → (f : Value → Value → Spend Bool) (s : Value → Value → Bool) (g : Value → Bool) → Below P f s g → (xs ys : Fields) → Either (list_all g (values_of xs)) (list_all g (values_of ys)) → P (same_fields f xs ys) (same_key_fields s xs ys)
+fields P k f s g h xs ys e = of_names P k (same_names (names_of xs) (names_of ys)) (same_items f (values_of xs) (values_of ys)) (same_key_items s (values_of xs) (values_of ys)) (items P k f s g h (values_of xs) (values_of ys) e)
+
 -- cells
 
--- a cell that is a key is a string or a tuple
-key_is : (Q : Option Cell → Type 0) (g : Value → Bool) → ((t : List ℕ) → Q (Some (cell.Text t))) → ((xs : List Value) → Q (Some (cell.Tuple xs))) → (c : Option Cell) → key_cell g c ≡ true → Q c
-key_is Q g ht hx (Some (cell.Text t)) e = ht t
-key_is Q g ht hx (Some (cell.Tuple xs)) e = hx xs
-key_is Q g ht hx (Some (cell.Range r)) e = absurd cc
-key_is Q g ht hx (Some (cell.List xs)) e = absurd cc
-key_is Q g ht hx (Some (cell.Dict es)) e = absurd cc
-key_is Q g ht hx (Some (cell.Func d)) e = absurd cc
-key_is Q g ht hx (Some (cell.Frame d)) e = absurd cc
-key_is Q g ht hx (Some (cell.Bound m v)) e = absurd cc
-key_is Q g ht hx None e = absurd cc
+-- a cell that is a key is a string, a tuple or a struct
+key_is : (Q : Option Cell → Type 0) (g : Value → Bool) → ((t : List ℕ) → Q (Some (cell.Text t))) → ((xs : List Value) → Q (Some (cell.Tuple xs))) → ((fs : Fields) → Q (Some (cell.Struct fs))) → (c : Option Cell) → key_cell g c ≡ true → Q c
+key_is Q g ht hx hs (Some (cell.Text t)) e = ht t
+key_is Q g ht hx hs (Some (cell.Tuple xs)) e = hx xs
+key_is Q g ht hx hs (Some (cell.Struct fs)) e = hs fs
+key_is Q g ht hx hs (Some (cell.Range r)) e = absurd cc
+key_is Q g ht hx hs (Some (cell.List xs)) e = absurd cc
+key_is Q g ht hx hs (Some (cell.Dict es)) e = absurd cc
+key_is Q g ht hx hs (Some (cell.Func d)) e = absurd cc
+key_is Q g ht hx hs (Some (cell.Frame d)) e = absurd cc
+key_is Q g ht hx hs (Some (cell.Bound m v)) e = absurd cc
+key_is Q g ht hx hs None e = absurd cc
 
 cells : (P : Spend Bool → Bool → Type 0) → Passes P → (look : Value → Option Cell) (f : Value → Value → Spend Bool) (s : Value → Value → Bool) (g : Value → Bool) → Below P f s g → (one : Bool) (c d : Option Cell) → Either (key_cell g c) (key_cell g d) → P (same_cells look f one c d) (same_key_cell s c d)
 unfolding Either
@@ -85,13 +95,15 @@ cells P k look f s g h one (Some (cell.Text t)) (Some (cell.Text u)) e = k.answe
 cells P k look f s g h one (Some (cell.Text t)) _ e = k.answers false
 cells P k look f s g h one (Some (cell.Tuple xs)) (Some (cell.Tuple ys)) e = items P k f s g h xs ys e
 cells P k look f s g h one (Some (cell.Tuple xs)) _ e = k.answers false
+cells P k look f s g h one (Some (cell.Struct xs)) (Some (cell.Struct ys)) e = fields P k f s g h xs ys e
+cells P k look f s g h one (Some (cell.Struct xs)) _ e = k.answers false
 cells P k look f s g h one c d (inl e) = absurd cc
-cells P k look f s g h one (Some (cell.Range r)) d (inr e) = key_is (λ d. P (same_cells look f one (Some (cell.Range r)) d) (same_key_cell s (Some (cell.Range r)) d)) g (λ t. k.answers false) (λ xs. k.answers false) d e
-cells P k look f s g h one (Some (cell.List zs)) d (inr e) = key_is (λ d. P (same_cells look f one (Some (cell.List zs)) d) (same_key_cell s (Some (cell.List zs)) d)) g (λ t. k.answers false) (λ xs. k.answers false) d e
-cells P k look f s g h one (Some (cell.Dict es)) d (inr e) = key_is (λ d. P (same_cells look f one (Some (cell.Dict es)) d) (same_key_cell s (Some (cell.Dict es)) d)) g (λ t. k.answers false) (λ xs. k.answers false) d e
-cells P k look f s g h one (Some (cell.Func r)) d (inr e) = key_is (λ d. P (same_cells look f one (Some (cell.Func r)) d) (same_key_cell s (Some (cell.Func r)) d)) g (λ t. k.answers false) (λ xs. k.answers false) d e
-cells P k look f s g h one (Some (cell.Frame r)) d (inr e) = key_is (λ d. P (same_cells look f one (Some (cell.Frame r)) d) (same_key_cell s (Some (cell.Frame r)) d)) g (λ t. k.answers false) (λ xs. k.answers false) d e
-cells P k look f s g h one (Some (cell.Bound m v)) d (inr e) = key_is (λ d. P (same_cells look f one (Some (cell.Bound m v)) d) (same_key_cell s (Some (cell.Bound m v)) d)) g (λ t. k.answers false) (λ xs. k.answers false) d e
+cells P k look f s g h one (Some (cell.Range r)) d (inr e) = key_is (λ d. P (same_cells look f one (Some (cell.Range r)) d) (same_key_cell s (Some (cell.Range r)) d)) g (λ t. k.answers false) (λ xs. k.answers false) (λ fs. k.answers false) d e
+cells P k look f s g h one (Some (cell.List zs)) d (inr e) = key_is (λ d. P (same_cells look f one (Some (cell.List zs)) d) (same_key_cell s (Some (cell.List zs)) d)) g (λ t. k.answers false) (λ xs. k.answers false) (λ fs. k.answers false) d e
+cells P k look f s g h one (Some (cell.Dict es)) d (inr e) = key_is (λ d. P (same_cells look f one (Some (cell.Dict es)) d) (same_key_cell s (Some (cell.Dict es)) d)) g (λ t. k.answers false) (λ xs. k.answers false) (λ fs. k.answers false) d e
+cells P k look f s g h one (Some (cell.Func r)) d (inr e) = key_is (λ d. P (same_cells look f one (Some (cell.Func r)) d) (same_key_cell s (Some (cell.Func r)) d)) g (λ t. k.answers false) (λ xs. k.answers false) (λ fs. k.answers false) d e
+cells P k look f s g h one (Some (cell.Frame r)) d (inr e) = key_is (λ d. P (same_cells look f one (Some (cell.Frame r)) d) (same_key_cell s (Some (cell.Frame r)) d)) g (λ t. k.answers false) (λ xs. k.answers false) (λ fs. k.answers false) d e
+cells P k look f s g h one (Some (cell.Bound m v)) d (inr e) = key_is (λ d. P (same_cells look f one (Some (cell.Bound m v)) d) (same_key_cell s (Some (cell.Bound m v)) d)) g (λ t. k.answers false) (λ xs. k.answers false) (λ fs. k.answers false) d e
 cells P k look f s g h one None d (inr e) = k.answers false
 
 -- values

@@ -3,7 +3,7 @@ use Rattle.std.specs.Prelude.{◌≡◌, ℕ, List, Option, Some}
 use Rattle.star_dialect.specs.declared.Dialect.TheVariants as dialect
 use Rattle.star_store.specs.declared.values.Value.{Value}
 use Rattle.star_store.specs.declared.names.Method.{Method}
-use Rattle.star_meaning.specs.Methods.{core_method_of, method_of}
+use Rattle.star_meaning.specs.Attributes.{core_method_of, method_of}
 use Rattle.star_meaning.specs.Program.{Setting}
 use Rattle.star_meaning.specs.Run.{Action}
 use Rattle.star_meaning.specs.TableMethods.{call_wider}

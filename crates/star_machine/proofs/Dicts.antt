@@ -21,6 +21,7 @@ held_entries (Some (cell.List xs)) = refl
 held_entries (Some (cell.Func f)) = refl
 held_entries (Some (cell.Frame f)) = refl
 held_entries (Some (cell.Bound m v)) = refl
+held_entries (Some (cell.Struct fs)) = refl
 held_entries None = refl
 
 entries_same : (w : Setting) (s : State) (v : Value) → entries_of (look s.store w.shelf v) ≡ entries_in (content w s v)

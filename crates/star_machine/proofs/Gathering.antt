@@ -111,6 +111,7 @@ keys_stay : (w : Setting) (s t : State) → Stays s t → KeepsKeys (look s.stor
 keys_stay w s t k = record {
   texts = λ v x h. stays_at w s t (cell.Text x) k (λ d e. e) v h;
   tuples = λ v xs h. stays_at w s t (cell.Tuple xs) k (λ d e. e) v h;
+  structs = λ v fs h. stays_at w s t (cell.Struct fs) k (λ d e. e) v h;
 }
 
 stays_if : (w : Setting) (s t : State) (es : List (Value × Value)) (contents : Option (List (List Atom))) → Stays s t → IfSome contents (λ ks. contents_of (look s.store w.shelf) es ≡ map Some ks) → IfSome contents (λ ks. contents_of (look t.store w.shelf) es ≡ map Some ks)

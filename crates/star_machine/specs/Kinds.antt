@@ -21,6 +21,7 @@ kind_of (Held (cell.Dict es)) = kind.Dict
 kind_of (Held (cell.Func f)) = kind.Function
 kind_of (Held (cell.Frame f)) = kind.Frame
 kind_of (Held (cell.Bound m v)) = kind.Method m v
+kind_of (Held (cell.Struct fs)) = kind.Struct
 kind_of Nowhere = kind.Nowhere
 
 -- the items of a list or a tuple

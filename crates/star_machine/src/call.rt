@@ -1,7 +1,7 @@
 //! A call of a built-in function or of a method, and the values that it is given.
 
 ghost use Rattle.star_machine.specs.Refines.{Refines};
-ghost use Rattle.star_meaning.specs.Arguments.{no_value, none_or_one, one_or_two, only_one, positional};
+ghost use Rattle.star_meaning.specs.Arguments.{no_value, none_or_one, one_or_two, only_one, positional, two, two_or_three};
 ghost use Rattle.star_meaning.specs.Run.{and_then};
 
 use crate::fault::EvalError;
@@ -54,5 +54,24 @@ impl<'a> Call<'a> {
             (one_or_two self.now.line)) result machine.now }
     {
         machine.one_or_two(self.line, machine.positional(self.line, self.given)?)
+    }
+
+    /// Two values. `Args` for another number of values and for a keyword argument.
+    pub fn two(&self, machine: &Machine) -> Result<(Value, Value), EvalError>
+        ensures { Refines (and_then (positional self.now.line self.now.given.now machine.now) (two self.now.line))
+            result machine.now }
+    {
+        machine.two(self.line, machine.positional(self.line, self.given)?)
+    }
+
+    /// Two values, and the third, if there is one. `Args` for another number of values and for a keyword argument.
+    pub fn two_or_three(
+        &self,
+        machine: &Machine,
+    ) -> Result<(Value, Value, Option<Value>), EvalError>
+        ensures { Refines (and_then (positional self.now.line self.now.given.now machine.now)
+            (two_or_three self.now.line)) result machine.now }
+    {
+        machine.two_or_three(self.line, machine.positional(self.line, self.given)?)
     }
 }

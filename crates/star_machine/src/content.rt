@@ -39,6 +39,7 @@ pub enum Kind {
     Function,
     Frame,
     Method(Method, Value),
+    Struct,
     Nowhere,
 }
 
@@ -119,6 +120,7 @@ fn kind_of_cell(cell: &Cell) -> Kind
         Cell::Func(_) => Kind::Function,
         Cell::Frame(_) => Kind::Frame,
         Cell::Bound(method, receiver) => Kind::Method(*method, *receiver),
+        Cell::Struct(_) => Kind::Struct,
     }
 }
 

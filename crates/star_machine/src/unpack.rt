@@ -107,6 +107,21 @@ impl Machine {
         }
     }
 
+    /// Two values, and the third, if there is one. `Args` for fewer or more.
+    pub fn two_or_three(
+        &self,
+        line: usize,
+        values: &[Value],
+    ) -> Result<(Value, Value, Option<Value>), EvalError>
+        ensures { Refines (spec.two_or_three line values.now self.now) result self.now }
+    {
+        match values {
+            [first, second] => Ok((*first, *second, None)),
+            [first, second, third] => Ok((*first, *second, Some(*third))),
+            _ => Err(fault_at(FaultCode::Args, line)),
+        }
+    }
+
     /// No value. `Args` for any.
     pub fn no_value(&self, line: usize, values: &[Value]) -> Result<(), EvalError>
         ensures { Refines (spec.no_value line values.now self.now) result self.now }

@@ -11,9 +11,8 @@ use Rattle.star_store.specs.declared.values.HeapCell.{HeapCell}
 use Rattle.star_store.specs.declared.values.Function.{Function}
 use Rattle.star_store.specs.Store.{made, next_value, published_cells}
 use Rattle.star_store.specs.Write.{cell_at}
-use Rattle.star_outline.specs.Names.{Names}
 use Rattle.star_outline.specs.declared.blocks.Block.{Block}
-use Rattle.star_scope.specs.Places.{Spots, AllPlaced, IsPlaced}
+use Rattle.star_scope.specs.Places.{Outer, Spots, AllPlaced, IsPlaced}
 use Rattle.star_scope.specs.Uses.{Use, Named, Defined, uses}
 use Rattle.star_tree.specs.declared.tree.Name.{Name}
 use Rattle.star_tree.specs.declared.tree.Statement.{Statement}
@@ -27,7 +26,7 @@ use Rattle.star_meaning.specs.Variables.{bind_name, new_frame, read_name}
 use Rattle.star_meaning.specs.Semantics.{then_go, block, then_turn, turns, repeat}
 use Rattle.star_meaning.specs.Laws.{KeepsFrame}
 use Rattle.star_meaning.specs.Local.{Trees, outlines}
-use Rattle.star_meaning.specs.Places.{AllFit, FitsBlock, FitsChain, FitsFunction, IsResolved, Stands, Tables, bind_spot, new_slots, outer_names, read_spot}
+use Rattle.star_meaning.specs.Places.{AllFit, FitsBlock, FitsChain, FitsFunction, IsResolved, Stands, Tables, bind_spot, new_slots, outer_at, read_spot}
 use Rattle.star_meaning.proofs.ReadPlaces.{spots_mean_names}
 use Rattle.star_meaning.proofs.Keeps.{Keeps}
 use Rattle.star_meaning.proofs.Quiet as quiet
@@ -199,13 +198,13 @@ pub record Resolved (tables : Tables) (trees : Trees) (w : Setting) : Type 0 whe
   pub outlines : w.outlines ≡ outlines trees
   pub files : (file : ℕ) (ss : List Statement) → Stands trees file ss → IsResolved tables w file ss
 
-placed_at : (spots : Spots) (blocks : List Block) (outer : Option Names) (us : List Use) (u d : Use) (k : ℕ) → AllPlaced spots blocks outer us → k < length us → slice_index_or us k d ≡ u → IsPlaced spots blocks outer u
+placed_at : (spots : Spots) (blocks : List Block) (outer : Outer) (us : List Use) (u d : Use) (k : ℕ) → AllPlaced spots blocks outer us → k < length us → slice_index_or us k d ≡ u → IsPlaced spots blocks outer u
 placed_at spots blocks outer [] u d k h l e = absurd (omega (arith, l))
 placed_at spots blocks outer (x ∷ us) u d zero h l e = subst (λ z. IsPlaced spots blocks outer z) e h.0
 placed_at spots blocks outer (x ∷ us) u d (suc k) h l e = placed_at spots blocks outer us u d k h.1 (omega (arith, l)) e
 
-pub is_placed : (tables : Tables) (trees : Trees) (w : Setting) → Resolved tables trees w → (file : ℕ) (ss : List Statement) (u : Use) → Stands trees file ss → Contains (uses ss) u → IsPlaced (tables.spots file) (blocks_of w file) (outer_names w file w.prelude) u
-is_placed tables trees w r file ss u stands h = placed_at (tables.spots file) (blocks_of w file) (outer_names w file w.prelude) (uses ss) u u h.0 (r.files file ss stands).names h.1 h.2
+pub is_placed : (tables : Tables) (trees : Trees) (w : Setting) → Resolved tables trees w → (file : ℕ) (ss : List Statement) (u : Use) → Stands trees file ss → Contains (uses ss) u → IsPlaced (tables.spots file) (blocks_of w file) (outer_at w file) u
+is_placed tables trees w r file ss u stands h = placed_at (tables.spots file) (blocks_of w file) (outer_at w file) (uses ss) u u h.0 (r.files file ss stands).names h.1 h.2
 
 pub agree_read : (tables : Tables) (trees : Trees) (w : Setting) → Resolved tables trees w → (p : Site) (n : Name) (ss : List Statement) (chain : List ℕ)
     → Stands trees p.file ss → Contains (uses ss) (Named n chain) → Agree trees w p.file chain (Some p.frame) (read_spot tables w p n) (read_name w p n)

@@ -39,7 +39,7 @@ use Rattle.star_meaning.proofs.Keeps.{kept_by}
 use Rattle.star_meaning.proofs.KeepsValues.{respects-is_true, keeps-new_dict, respects-new_list, respects-new_text, respects-new_tuple, respects-take_item}
 use Rattle.star_meaning.proofs.KeepsOperators.{respects-comparison, keeps-operate, respects-prefix}
 use Rattle.star_meaning.proofs.KeepsSubscript.{respects-index, respects-set_index, respects-slice}
-use Rattle.star_meaning.proofs.KeepsMethods.{respects-attribute}
+use Rattle.star_meaning.proofs.KeepsAttributes.{respects-attribute}
 use Rattle.star_meaning.proofs.KeepsEntries.{keeps-augmented, keeps-fresh_entries}
 
 pub agree-node : (tables : Tables) (trees : Trees) (w : Setting) (m n : Semantics) (p : Site) (ss : List Statement) (chain : List ℕ) → Scene tables trees w m n p ss chain → (levels : ℕ) (x : ExpressionForm) → Sub (expression_level x chain) (uses ss) → Agree trees w p.file chain (Some p.frame) (node (by_places tables w) w levels m p x) (node (by_names w) w levels n p x)

@@ -4,7 +4,7 @@ use Rattle.star_meaning.specs.Program.{Setting}
 use Rattle.std.proofs.Common.{ℕ, List, [], ◌∷◌, Option, Some, None, Bool}
 use Rattle.star_meaning.specs.declared.given.KeywordArgument.{KeywordArgument}
 use Rattle.star_meaning.specs.declared.given.Arguments.{Arguments}
-use Rattle.star_meaning.specs.Arguments.{star_count, take_star, star_star_names, take_names, given, name_key, key_for, positional, with_name, only_one, none_or_one, one_or_two, two, no_value, EvaluatedArgument}
+use Rattle.star_meaning.specs.Arguments.{star_count, take_star, star_star_names, take_names, given, name_key, key_for, positional, with_name, only_one, none_or_one, one_or_two, two, two_or_three, no_value, EvaluatedArgument}
 use Rattle.star_meaning.proofs.Invariants.{Invariant, Respects, respects}
 use Rattle.star_meaning.proofs.Keeps.{keeps, kept_by, Keeps}
 use Rattle.star_meaning.proofs.KeepsValues.{respects-new_text, respects-count_of, respects-take_items}
@@ -55,6 +55,11 @@ respects-one_or_two line _ = search respects depth 14
 pub respects-two : {w : Setting} {inv : Invariant w} → (line : ℕ) (a1 : List Value) → Respects inv (two line a1)
 respects-two line (x ∷ y ∷ []) = search respects depth 14
 respects-two line _ = search respects depth 14
+
+pub respects-two_or_three : {w : Setting} {inv : Invariant w} → (line : ℕ) (a1 : List Value) → Respects inv (two_or_three line a1)
+respects-two_or_three line (x ∷ y ∷ []) = search respects depth 14
+respects-two_or_three line (x ∷ y ∷ z ∷ []) = search respects depth 14
+respects-two_or_three line _ = search respects depth 14
 
 pub respects-no_value : {w : Setting} {inv : Invariant w} → (line : ℕ) (a1 : List Value) → Respects inv (no_value line a1)
 respects-no_value line [] = search respects depth 14

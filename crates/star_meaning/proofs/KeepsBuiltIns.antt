@@ -12,6 +12,7 @@ use Rattle.std.proofs.Common.{ℕ, List, [], ◌∷◌, Option, Some, None, Bool
 use Rattle.star_meaning.specs.BuiltIns.{absolute, call_abs, is_decided, some_item, call_all, call_any, truth_of, call_bool, call_dict, want_start, numbered, call_enumerate, want_separator, print_line, call_print, call_fail, to_int, call_int, call_len, taken_from, call_list, call_tuple, call_reversed, best_of, best_in, candidates, call_best, new_range, range_of, call_range, call_repr, call_str, call_type, want_reverse, sort, call_sorted, row_at, call_zip, call_built_in}
 use Rattle.star_meaning.proofs.Invariants.{Invariant, Respects, respects}
 use Rattle.star_meaning.proofs.Keeps.{keeps, kept_by, Keeps}
+use Rattle.star_meaning.proofs.KeepsAttributes.{respects-call_chr, respects-call_dir, respects-call_getattr, respects-call_hasattr, respects-call_ord, respects-call_struct}
 use Rattle.star_meaning.proofs.KeepsValues.{respects-with_content, respects-want_int, respects-want_bool, respects-want_text, respects-new_int, respects-new_text, respects-new_tuple, respects-new_list, respects-count_of, respects-take_item, respects-take_items, respects-take_all, respects-is_true, respects-compare, respects-repr, respects-str}
 use Rattle.star_meaning.proofs.KeepsArguments.{respects-positional, respects-with_name, respects-only_one, respects-none_or_one, respects-one_or_two}
 use Rattle.star_meaning.proofs.KeepsPairs.{respects-pairs_of, respects-pairs_count, keeps-dict_of}
@@ -169,3 +170,9 @@ keeps-call_built_in w levels line built_in.Str g = search (keeps, kept_by w, res
 keeps-call_built_in w levels line built_in.Tuple g = search (keeps, kept_by w, respects-call_tuple) depth 14
 keeps-call_built_in w levels line built_in.Type g = search (keeps, kept_by w, respects-call_type) depth 14
 keeps-call_built_in w levels line built_in.Zip g = search (keeps, kept_by w, respects-call_zip) depth 14
+keeps-call_built_in w levels line built_in.Chr g = search (keeps, kept_by w, respects-call_chr) depth 14
+keeps-call_built_in w levels line built_in.Dir g = search (keeps, kept_by w, respects-call_dir) depth 14
+keeps-call_built_in w levels line built_in.Getattr g = search (keeps, kept_by w, respects-call_getattr) depth 14
+keeps-call_built_in w levels line built_in.Hasattr g = search (keeps, kept_by w, respects-call_hasattr) depth 14
+keeps-call_built_in w levels line built_in.Ord g = search (keeps, kept_by w, respects-call_ord) depth 14
+keeps-call_built_in w levels line built_in.Struct g = search (keeps, kept_by w, respects-call_struct) depth 14

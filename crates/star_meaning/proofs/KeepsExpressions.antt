@@ -15,7 +15,7 @@ use Rattle.star_meaning.proofs.Keeps.{keeps, Keeps, AllKeep, VariablesKeep, kept
 use Rattle.star_meaning.proofs.KeepsValues.{respects-new_text, respects-new_tuple, respects-new_list, keeps-new_dict, respects-is_true}
 use Rattle.star_meaning.proofs.KeepsOperators.{keeps-operate, respects-prefix, respects-comparison}
 use Rattle.star_meaning.proofs.KeepsSubscript.{respects-index, respects-slice}
-use Rattle.star_meaning.proofs.KeepsMethods.{respects-attribute}
+use Rattle.star_meaning.proofs.KeepsAttributes.{respects-attribute}
 use Rattle.star_meaning.proofs.KeepsComprehensions.{keeps-list_comprehension, keeps-dict_comprehension}
 use Rattle.star_meaning.proofs.KeepsCalls.{keeps-call_node}
 use Rattle.star_meaning.proofs.KeepsEntries.{keeps-fresh_entries}

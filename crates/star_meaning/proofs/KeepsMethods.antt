@@ -5,17 +5,13 @@ use Rattle.star_store.specs.declared.names.Method.TheVariants as method
 use Rattle.star_meaning.specs.Program.{Setting}
 use Rattle.star_meaning.specs.declared.given.Arguments.{Arguments}
 use Rattle.std.proofs.Common.{ℕ, List}
-use Rattle.star_meaning.specs.Methods.{attribute, on_text, call_method}
+use Rattle.star_meaning.specs.Methods.{on_text, call_method}
 use Rattle.star_meaning.proofs.Invariants.{Invariant, Respects, respects}
-use Rattle.star_meaning.proofs.KeepsValues.{respects-with_content, respects-want_text}
+use Rattle.star_meaning.proofs.KeepsValues.{respects-want_text}
 use Rattle.star_meaning.proofs.KeepsListMethods.{respects-call_append, respects-call_clear, respects-call_extend, respects-call_index, respects-call_insert, respects-call_pop, respects-call_remove}
 use Rattle.star_meaning.proofs.KeepsDictMethods.{respects-call_get, respects-call_items, respects-call_keys, respects-call_values, respects-call_dict_pop, respects-call_popitem, respects-call_setdefault, respects-call_update}
 use Rattle.star_meaning.proofs.KeepsTableMethods.{respects-call_in_table, respects-call_wider}
 use Rattle.star_meaning.proofs.KeepsTextMethods.{respects-call_edge, respects-call_find, respects-call_join, respects-call_split, respects-call_strip, respects-call_case, respects-call_replace, respects-call_format}
-
-pub respects-attribute : (w : Setting) {inv : Invariant w} (line : ℕ) (x : Value) (name : List ℕ) → Respects inv (attribute w line x name)
-unfolding attribute
-respects-attribute w line x name = search (respects, respects-with_content) depth 14
 
 pub respects-on_text : (w : Setting) {inv : Invariant w} (levels : ℕ) (line : ℕ) (a3 : Method) (t : List ℕ) (g : Arguments) → Respects inv (on_text w levels line a3 t g)
 respects-on_text w levels line method.StringEndswith t g = respects-call_wider w line _ t g _ (search (respects, respects-call_edge) depth 14)

@@ -12,7 +12,7 @@ use Rattle.star_meaning.specs.declared.fault.FaultCode.TheVariants as code
 use Rattle.star_meaning.specs.Run.{Action, ◌>>=◌, found}
 use Rattle.star_dialect.specs.declared.Dialect.{Dialect}
 use Rattle.star_dialect.specs.declared.Dialect.TheVariants as dialect
-use Rattle.std.proofs.Common.{ℕ, List, [], ◌∷◌, Some}
+use Rattle.std.proofs.Common.{ℕ, List, [], ◌∷◌}
 use Rattle.star_meaning.specs.TableMethods.{call_wider, in_dialect, want_argument, want_arguments, want_maybe_text, answered, call_row, call_in_table}
 use Rattle.star_meaning.proofs.Invariants.{Invariant, Respects, respects, respects_give, respects_then}
 use Rattle.star_meaning.proofs.KeepsValues.{respects-want_bool, respects-want_int, respects-want_text, respects-new_text, respects-new_list, respects-new_tuple}

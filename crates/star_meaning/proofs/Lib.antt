@@ -10,6 +10,7 @@ pub mod Growth
 pub mod Invariants
 pub mod Keeps
 pub mod KeepsArguments
+pub mod KeepsAttributes
 pub mod KeepsBinding
 pub mod KeepsBuiltIns
 pub mod KeepsCallee

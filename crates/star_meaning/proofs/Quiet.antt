@@ -132,6 +132,9 @@ keeps_make_range r = keeps_make (cell.Range r) (λ f e. let g : cell.Range r ≡
 pub keeps_make_bound : (m : Method) (v : Value) → Keeps (make (cell.Bound m v))
 keeps_make_bound m v = keeps_make (cell.Bound m v) (λ f e. let g : cell.Bound m v ≡ cell.Func f → ⊥ = λ e. cc in g e)
 
+pub keeps_make_struct : (fs : List (List ℕ × Value)) → Keeps (make (cell.Struct fs))
+keeps_make_struct fs = keeps_make (cell.Struct fs) (λ f e. let g : cell.Struct fs ≡ cell.Func f → ⊥ = λ e. cc in g e)
+
 pub keeps_make_frame : (x : Frame) → Keeps (make (cell.Frame x))
 keeps_make_frame x = keeps_make (cell.Frame x) (λ f e. let g : cell.Frame x ≡ cell.Func f → ⊥ = λ e. cc in g e)
 
@@ -156,6 +159,9 @@ keeps_build_range line cost r = built line cost (cell.Range r) (keeps_make_range
 
 pub keeps_build_bound : (line cost : ℕ) (m : Method) (v : Value) → Keeps (build line cost (cell.Bound m v))
 keeps_build_bound line cost m v = built line cost (cell.Bound m v) (keeps_make_bound m v)
+
+pub keeps_build_struct : (line cost : ℕ) (fs : List (List ℕ × Value)) → Keeps (build line cost (cell.Struct fs))
+keeps_build_struct line cost fs = built line cost (cell.Struct fs) (keeps_make_struct fs)
 
 -- ---- loops
 

@@ -9,12 +9,14 @@ use Rattle.star_store.specs.declared.values.Value.{Value}
 use Rattle.star_store.specs.declared.values.Cell.TheVariants as cell
 use Rattle.star_store.specs.declared.values.Frame.{Frame}
 use Rattle.star_store.specs.Store.{global_of}
+use Rattle.star_dialect.specs.declared.Dialect.{Dialect}
+use Rattle.star_dialect.specs.declared.Dialect.TheVariants as dialect
 use Rattle.star_scope.specs.declared.spot.Spot.{Spot}
 use Rattle.star_scope.specs.declared.spot.Spot.TheVariants as spot
 use Rattle.star_outline.specs.Names.{Names, same_name, slot_of, has_name}
 use Rattle.star_outline.specs.declared.blocks.Block.{Block}
 use Rattle.star_outline.specs.Outlines.{names_in}
-use Rattle.star_scope.specs.Places.{IsPlaced, chain_length, or_further, spot_in, outside_spot, outermost_names}
+use Rattle.star_scope.specs.Places.{IsPlaced, Outer, chain_length, or_further, spot_in, outside_spot, outermost_names}
 use Rattle.star_scope.specs.Uses.{Named}
 use Rattle.star_tree.specs.declared.tree.Name.{Name}
 use Rattle.star_scope.specs.Places as scope
@@ -23,7 +25,7 @@ use Rattle.star_meaning.specs.declared.site.Site.{Site}
 use Rattle.star_meaning.specs.Run.{State, found}
 use Rattle.star_meaning.specs.Program.{Setting, names_of, blocks_of, published_of, seen}
 use Rattle.star_meaning.specs.Variables.{frame_of, in_frame, bind_at, bind_name, else_in, nearest, keyword_slot, read_name, read_found, outside, outside_prelude, prelude_has, outermost}
-use Rattle.star_meaning.specs.Places.{Tables, SpotsMeanNames, bind_spot, frame_above, own_spot, read_spot, slot_in, joined, at_spot, outer_names, FitsBlock, FitsChain}
+use Rattle.star_meaning.specs.Places.{Tables, SpotsMeanNames, bind_spot, frame_above, own_spot, read_spot, slot_in, joined, at_spot, outer_names, outer_at, FitsBlock, FitsChain}
 
 -- the frame that a value leads to
 abbrev framed : Setting → State → Option Value → Option Frame
@@ -85,32 +87,36 @@ no_global_in [] name h = refl
 no_global_in (g ∷ gs) name h = neither (same_name g.0 name) (has_name (map (λ g. g.0) gs) name) g.1 (global_of name gs) (ap (λ b. b || has_name (map (λ g. g.0) gs) name) (swap_names g.0 name) ∙ h) (no_global_in gs name)
 
 -- a name that the outermost block does not have has no value there
-no_global : (name : List ℕ) → has_name outermost_names name ≡ false → global_of name outermost ≡ None
-no_global name h = no_global_in outermost name (let e : map (λ g. g.0) outermost ≡ outermost_names = refl in ap (λ ns. has_name ns name) e ∙ h)
+outermost_is : (d : Dialect) → map (λ g. g.0) (outermost d) ≡ outermost_names d
+outermost_is dialect.Core = refl
+outermost_is dialect.Extended = refl
 
-at_outermost : (w : Setting) (s : State) (p : Site) (name : List ℕ) (b : Bool) → has_name outermost_names name ≡ b
-    → at_spot w s p name (if b then Some spot.Outermost else None) ≡ global_of name outermost
+no_global : (d : Dialect) (name : List ℕ) → has_name (outermost_names d) name ≡ false → global_of name (outermost d) ≡ None
+no_global d name h = no_global_in (outermost d) name (ap (λ ns. has_name ns name) (outermost_is d) ∙ h)
+
+at_outermost : (w : Setting) (s : State) (p : Site) (name : List ℕ) (b : Bool) → has_name (outermost_names w.dialect) name ≡ b
+    → at_spot w s p name (if b then Some spot.Outermost else None) ≡ global_of name (outermost w.dialect)
 at_outermost w s p name true h = refl
-at_outermost w s p name false h = sym (no_global name h)
+at_outermost w s p name false h = sym (no_global w.dialect name h)
 
-at_outermost_now : (w : Setting) (s : State) (p : Site) (name : List ℕ) → at_spot w s p name (if has_name outermost_names name then Some spot.Outermost else None) ≡ global_of name outermost
-at_outermost_now w s p name = at_outermost w s p name (has_name outermost_names name) refl
+at_outermost_now : (w : Setting) (s : State) (p : Site) (name : List ℕ) → at_spot w s p name (if has_name (outermost_names w.dialect) name then Some spot.Outermost else None) ≡ global_of name (outermost w.dialect)
+at_outermost_now w s p name = at_outermost w s p name (has_name (outermost_names w.dialect) name) refl
 
 -- the prelude's names, with its published values
 in_prelude : (w : Setting) (s : State) (p : Site) (name : List ℕ) (q : ℕ) (b : Bool) → w.prelude ≡ Some q
-    → (if b then found code.Unbound p.line (option_and_then (λ x. global_of name x.globals) (published_of w q)) else outside_prelude p.line name)
-    ≡ found code.Unbound p.line (at_spot w s p name (if b then Some spot.Prelude else if has_name outermost_names name then Some spot.Outermost else None))
+    → (if b then found code.Unbound p.line (option_and_then (λ x. global_of name x.globals) (published_of w q)) else outside_prelude w.dialect p.line name)
+    ≡ found code.Unbound p.line (at_spot w s p name (if b then Some spot.Prelude else if has_name (outermost_names w.dialect) name then Some spot.Outermost else None))
 in_prelude w s p name q true e = ap (λ o. found code.Unbound p.line (option_and_then (λ x. global_of name x.globals) (option_and_then (published_of w) o))) (sym e)
 in_prelude w s p name q false e = ap (found code.Unbound p.line) (sym (at_outermost_now w s p name))
 
 outside_own : (w : Setting) (s : State) (p : Site) (name : List ℕ) (q : ℕ) (own : Bool) → w.prelude ≡ Some q
-    → (if not own && prelude_has w name q then found code.Unbound p.line (option_and_then (λ x. global_of name x.globals) (published_of w q)) else outside_prelude p.line name)
-    ≡ found code.Unbound p.line (at_spot w s p name (outside_spot (if own then None else Some (names_of w q 0)) name))
+    → (if not own && prelude_has w name q then found code.Unbound p.line (option_and_then (λ x. global_of name x.globals) (published_of w q)) else outside_prelude w.dialect p.line name)
+    ≡ found code.Unbound p.line (at_spot w s p name (outside_spot (record { names = if own then None else Some (names_of w q 0); dialect = w.dialect }) name))
 outside_own w s p name q true e = ap (found code.Unbound p.line) (sym (at_outermost_now w s p name))
 outside_own w s p name q false e = in_prelude w s p name q (prelude_has w name q) e
 
 outside_by : (w : Setting) (s : State) (p : Site) (name : List ℕ) (o : Option ℕ) → w.prelude ≡ o
-    → outside w o p.file p.line name ≡ found code.Unbound p.line (at_spot w s p name (outside_spot (outer_names w p.file o) name))
+    → outside w o p.file p.line name ≡ found code.Unbound p.line (at_spot w s p name (outside_spot (record { names = outer_names w p.file o; dialect = w.dialect }) name))
 outside_by w s p name None e = ap (found code.Unbound p.line) (sym (at_outermost_now w s p name))
 outside_by w s p name (Some q) e = outside_own w s p name q (nat_eq q p.file) e
 
@@ -131,7 +137,7 @@ at_slot w s p name names f up (Some i) rest further h e g k =
 
 read_in : (w : Setting) (s : State) (p : Site) (name : List ℕ) (chain : List ℕ) (n up : ℕ) (frame : Option Value)
     → frame_above w s up (Some p.frame) ≡ frame → FitsChain w s p.file chain frame → length chain ≤ n
-    → read_found w p name (nearest w s name n frame) ≡ found code.Unbound p.line (at_spot w s p name (spot_in (blocks_of w p.file) (outer_names w p.file w.prelude) name up chain))
+    → read_found w p name (nearest w s name n frame) ≡ found code.Unbound p.line (at_spot w s p name (spot_in (blocks_of w p.file) (outer_at w p.file) name up chain))
 read_in w s p name [] n up frame a h l =
     ap (read_found w p name) (ap (nearest w s name n) h ∙ nearest_none w s name n) ∙ outside_by w s p name w.prelude refl
 read_in w s p name (b ∷ bs) zero up frame a h l = absurd (omega (arith, l))
@@ -143,7 +149,7 @@ read_in w s p name (b ∷ bs) (suc n) up frame a h l =
     let step : nearest w s name (suc n) frame ≡ else_in (option_and_then (λ i. slice_get f.slots i) (slot_of name (names_in (blocks_of w p.file) b))) (nearest w s name n f.parent) =
     nearest_next w s name n frame f here ∙ ap (λ x. else_in x (nearest w s name n f.parent)) (in_block w p.file b name f h.4) in
     ap (read_found w p name) step
-    ∙ at_slot w s p name (names_in (blocks_of w p.file) b) f up (slot_of name (names_in (blocks_of w p.file) b)) (nearest w s name n f.parent) (spot_in (blocks_of w p.file) (outer_names w p.file w.prelude) name (up + 1) bs)
+    ∙ at_slot w s p name (names_in (blocks_of w p.file) b) f up (slot_of name (names_in (blocks_of w p.file) b)) (nearest w s name n f.parent) (spot_in (blocks_of w p.file) (outer_at w p.file) name (up + 1) bs)
     h.4.slots_are refl above (read_in w s p name bs n (up + 1) f.parent next h.5 (omega (arith, l)))
 
 -- ---- binding
@@ -161,8 +167,8 @@ own_or up k None further e h = h
 own_or up k (Some slot) further e h = own_above slot up k e
 
 -- a spot that is found further out is not in the innermost frame
-own_further : (blocks : List Block) (outer : Option Names) (name : List ℕ) (chain : List ℕ) (up k : ℕ) → up ≡ suc k → own_spot (spot_in blocks outer name up chain) ≡ None
-own_further blocks outer name [] up k e = own_outside (scope.prelude_has outer name) (has_name outermost_names name)
+own_further : (blocks : List Block) (outer : Outer) (name : List ℕ) (chain : List ℕ) (up k : ℕ) → up ≡ suc k → own_spot (spot_in blocks outer name up chain) ≡ None
+own_further blocks outer name [] up k e = own_outside (scope.prelude_has outer.names name) (has_name (outermost_names outer.dialect) name)
 own_further blocks outer name (b ∷ bs) up k e = own_or up k (slot_of name (names_in blocks b)) (spot_in blocks outer name (up + 1) bs) e (own_further blocks outer name bs (up + 1) up (omega arith))
 
 own_first : (o : Option ℕ) (further : Option Spot) → own_spot further ≡ None → own_spot (or_further 0 o further) ≡ o
@@ -170,19 +176,19 @@ own_first None further h = h
 own_first (Some slot) further h = refl
 
 bind_in : (w : Setting) (s : State) (p : Site) (name : List ℕ) (chain : List ℕ) → FitsChain w s p.file chain (Some p.frame)
-    → own_spot (spot_in (blocks_of w p.file) (outer_names w p.file w.prelude) name 0 chain) ≡ keyword_slot w s p.frame name
+    → own_spot (spot_in (blocks_of w p.file) (outer_at w p.file) name 0 chain) ≡ keyword_slot w s p.frame name
 bind_in w s p name [] h = absurd cc
 bind_in w s p name (b ∷ bs) h =
     let f : Frame = h.1 in
     let here : frame_of (seen w s p.frame) ≡ Some f = is_framed w s (Some p.frame) h.0 f h.2 h.3 in
     let names : names_of w f.file f.block ≡ names_in (blocks_of w p.file) b = ap (λ k. names_of w k f.block) h.4.file_is ∙ ap (names_of w p.file) h.4.block_is in
     let own : keyword_slot w s p.frame name ≡ slot_of name (names_in (blocks_of w p.file) b) = ap (option_and_then (λ x. slot_of name (names_of w x.file x.block))) here ∙ ap (slot_of name) names in
-    own_first (slot_of name (names_in (blocks_of w p.file) b)) _ (own_further (blocks_of w p.file) (outer_names w p.file w.prelude) name bs (0 + 1) 0 (omega arith)) ∙ sym own
+    own_first (slot_of name (names_in (blocks_of w p.file) b)) _ (own_further (blocks_of w p.file) (outer_at w p.file) name bs (0 + 1) 0 (omega arith)) ∙ sym own
 
 -- ---- the law
 
 reads : (tables : Tables) (w : Setting) (p : Site) (n : Name) (chain : List ℕ) (s : State)
-    → IsPlaced (tables.spots p.file) (blocks_of w p.file) (outer_names w p.file w.prelude) (Named n chain) → FitsChain w s p.file chain (Some p.frame)
+    → IsPlaced (tables.spots p.file) (blocks_of w p.file) (outer_at w p.file) (Named n chain) → FitsChain w s p.file chain (Some p.frame)
     → read_spot tables w p n s ≡ read_name w p n s
 unfolding read_spot read_name
 reads tables w p n chain s placed fits =
@@ -190,7 +196,7 @@ reads tables w p n chain s placed fits =
     ∙ sym (ap (λ act. act s) (read_in w s p n.text chain chain_length 0 (Some p.frame) refl fits placed.0))
 
 binds : (tables : Tables) (w : Setting) (p : Site) (n : Name) (chain : List ℕ) (s : State) (v : Value)
-    → IsPlaced (tables.spots p.file) (blocks_of w p.file) (outer_names w p.file w.prelude) (Named n chain) → FitsChain w s p.file chain (Some p.frame)
+    → IsPlaced (tables.spots p.file) (blocks_of w p.file) (outer_at w p.file) (Named n chain) → FitsChain w s p.file chain (Some p.frame)
     → bind_spot tables p n v s ≡ bind_name w p n v s
 unfolding bind_spot bind_name
 binds tables w p n chain s v placed fits =

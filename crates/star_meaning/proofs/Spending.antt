@@ -6,10 +6,11 @@ use Rattle.star_store.specs.declared.values.Cell.{Cell}
 use Rattle.star_store.specs.declared.values.Cell.TheVariants as cell
 use Rattle.star_store.specs.declared.fault.StoreFault.{StoreFault}
 use Rattle.star_store.specs.Key.{check_each, check_cell, check_value, check}
-use Rattle.star_store.specs.Equal.{same_pair, same_place, same_items, same_found, same_pairs, same_entry, same_entries, same_cells, same_values, same}
+use Rattle.star_store.specs.Fields.{Fields}
+use Rattle.star_store.specs.Equal.{same_pair, same_place, same_items, same_fields, same_found, same_pairs, same_entry, same_entries, same_cells, same_values, same}
 use Rattle.std.specs.declared.cmp.Ordering.{Ordering}
 use Rattle.star_store.specs.Order.{order_places, order_pair, order_place, order_items, order_cells, order_values, order}
-use Rattle.star_store.specs.Text.{say, say_parts, then_say, all_said, say_item, say_place, say_items, say_pair, say_entry, say_entries, say_tuple, say_new_list, say_new_dict, say_list, say_dict, say_cell, say_value, text}
+use Rattle.star_store.specs.Text.{say, say_parts, then_say, all_said, say_item, say_place, say_items, say_pair, say_entry, say_entries, say_named, say_field, say_fields, say_struct, say_tuple, say_new_list, say_new_dict, say_list, say_dict, say_cell, say_value, text}
 use Rattle.std.proofs.Common.{ℕ, zero, suc, ◌+◌, List, [], ◌∷◌, Option, Some, None, Bool, true, false, if◌then◌else◌}
 use Rattle.star_store.specs.Spend.{Spend, Enough, Lacks, answer, spend_then, visited, all_places}
 use Rattle.star_meaning.specs.Values.{bare}
@@ -56,6 +57,7 @@ spends-check_each f (x ∷ xs) k0 = spends_then (f x) (λ _. check_each f xs) (k
 pub spends-check_cell : (f : (Value → Spend (Unit {0}))) (a1 : Option Cell) → ((x0 : Value) → Spends (f x0)) → Spends (check_cell f a1)
 spends-check_cell f (Some (cell.Text t)) k0 = search spends depth 14
 spends-check_cell f (Some (cell.Tuple xs)) k0 = search (spends, spends-check_each) depth 14
+spends-check_cell f (Some (cell.Struct fs)) k0 = search (spends, spends-check_each) depth 14
 spends-check_cell f _ k0 = search spends depth 14
 
 pub spends-check_value : (look : (Value → Option Cell)) (f : (Value → Spend (Unit {0}))) (a2 : Value) → ((x0 : Value) → Spends (f x0)) → Spends (check_value look f a2)
@@ -94,6 +96,9 @@ spends-same_entry look f xs ys i k0 = search (spends, spends-same_pairs) depth 1
 pub spends-same_entries : (look : (Value → Option Cell)) (f : (Value → Value → Spend Bool)) (xs : List (Value × Value)) (ys : List (Value × Value)) → ((x0 : Value) (x1 : Value) → Spends (f x0 x1)) → Spends (same_entries look f xs ys)
 spends-same_entries look f xs ys k0 = search (spends, spends-same_entry) depth 14
 
+pub spends-same_fields : (f : (Value → Value → Spend Bool)) (xs : Fields) (ys : Fields) → ((x0 : Value) (x1 : Value) → Spends (f x0 x1)) → Spends (same_fields f xs ys)
+spends-same_fields f xs ys k0 = search (spends, spends-same_items) depth 14
+
 pub spends-same_cells : (look : (Value → Option Cell)) (f : (Value → Value → Spend Bool)) (one : Bool) (a3 : Option Cell) (a4 : Option Cell) → ((x0 : Value) (x1 : Value) → Spends (f x0 x1)) → Spends (same_cells look f one a3 a4)
 spends-same_cells look f one (Some (cell.Text t)) (Some (cell.Text u)) k0 = search spends depth 14
 spends-same_cells look f one (Some (cell.Range r)) (Some (cell.Range s)) k0 = search spends depth 14
@@ -102,6 +107,7 @@ spends-same_cells look f one (Some (cell.List xs)) (Some (cell.List ys)) k0 = se
 spends-same_cells look f one (Some (cell.Dict xs)) (Some (cell.Dict ys)) k0 = search (spends, spends-same_entries) depth 14
 spends-same_cells look f one (Some (cell.Func g)) (Some (cell.Func h)) k0 = search spends depth 14
 spends-same_cells look f one (Some (cell.Bound m x)) (Some (cell.Bound n y)) k0 = search spends depth 14
+spends-same_cells look f one (Some (cell.Struct xs)) (Some (cell.Struct ys)) k0 = search (spends, spends-same_fields) depth 14
 spends-same_cells look f one _ _ k0 = search spends depth 14
 
 pub spends-same_values : (look : (Value → Option Cell)) (f : (Value → Value → Spend Bool)) (a2 : Value) (a3 : Value) → ((x0 : Value) (x1 : Value) → Spends (f x0 x1)) → Spends (same_values look f a2 a3)
@@ -184,6 +190,19 @@ spends-say_entries f es y2 k0 = search (spends, spends-all_said, spends-say_entr
 pub spends-say_tuple : (f : (Value → (List ℕ → Spend (List ℕ)))) (xs : List Value) (a2 : List ℕ) → ((x0 : Value) (x1 : List ℕ) → Spends (f x0 x1)) → Spends (say_tuple f xs a2)
 spends-say_tuple f xs y2 k0 = search (spends, spends-say, spends-then_say, spends-say_items) depth 14
 
+pub spends-say_named : (f : (Value → (List ℕ → Spend (List ℕ)))) (a1 : Option (List ℕ × Value)) (a2 : List ℕ) → ((x0 : Value) (x1 : List ℕ) → Spends (f x0 x1)) → Spends (say_named f a1 a2)
+spends-say_named f (Some e) y2 k0 = search (spends, spends-say, spends-then_say) depth 14
+spends-say_named f None y2 k0 = search (spends, spends-say) depth 14
+
+pub spends-say_field : (f : (Value → (List ℕ → Spend (List ℕ)))) (fs : List (List ℕ × Value)) (i : ℕ) (a3 : List ℕ) → ((x0 : Value) (x1 : List ℕ) → Spends (f x0 x1)) → Spends (say_field f fs i a3)
+spends-say_field f fs i y3 k0 = search (spends, spends-say, spends-then_say, spends-say_named) depth 14
+
+pub spends-say_fields : (f : (Value → (List ℕ → Spend (List ℕ)))) (fs : List (List ℕ × Value)) (a2 : List ℕ) → ((x0 : Value) (x1 : List ℕ) → Spends (f x0 x1)) → Spends (say_fields f fs a2)
+spends-say_fields f fs y2 k0 = search (spends, spends-all_said, spends-say_field) depth 14
+
+pub spends-say_struct : (f : (Value → (List ℕ → Spend (List ℕ)))) (fs : List (List ℕ × Value)) (a2 : List ℕ) → ((x0 : Value) (x1 : List ℕ) → Spends (f x0 x1)) → Spends (say_struct f fs a2)
+spends-say_struct f fs y2 k0 = search (spends, spends-say, spends-then_say, spends-say_fields) depth 14
+
 pub spends-say_new_list : (f : (Value → (List ℕ → Spend (List ℕ)))) (xs : List Value) (a2 : List ℕ) → ((x0 : Value) (x1 : List ℕ) → Spends (f x0 x1)) → Spends (say_new_list f xs a2)
 spends-say_new_list f xs y2 k0 = search (spends, spends-say, spends-then_say, spends-say_items) depth 14
 
@@ -205,6 +224,7 @@ spends-say_cell f path v (Some (cell.Dict es)) y4 k0 = search (spends, spends-sa
 spends-say_cell f path v (Some (cell.Func g)) y4 k0 = search (spends, spends-say_parts) depth 14
 spends-say_cell f path v (Some (cell.Frame g)) y4 k0 = search (spends, spends-say) depth 14
 spends-say_cell f path v (Some (cell.Bound m x)) y4 k0 = search (spends, spends-say_parts) depth 14
+spends-say_cell f path v (Some (cell.Struct fs)) y4 k0 = search (spends, spends-say_struct) depth 14
 spends-say_cell f path v None y4 k0 = search (spends, spends-say) depth 14
 
 pub spends-say_value : (look : (Value → Option Cell)) (f : (List Value → Value → (List ℕ → Spend (List ℕ)))) (path : List Value) (a3 : Value) (a4 : List ℕ) → ((x0 : List Value) (x1 : Value) (x2 : List ℕ) → Spends (f x0 x1 x2)) → Spends (say_value look f path a3 a4)

@@ -141,6 +141,11 @@ abbrev pub two : ℕ → List Value → Action (Value × Value)
 two line (x ∷ y ∷ []) = give (x, y)
 two line _ = fail code.Args line
 
+abbrev pub two_or_three : ℕ → List Value → Action (Value × Value × Option Value)
+two_or_three line (x ∷ y ∷ []) = give (x, y, None)
+two_or_three line (x ∷ y ∷ z ∷ []) = give (x, y, Some z)
+two_or_three line _ = fail code.Args line
+
 abbrev pub no_value : ℕ → List Value → Action (Unit {0})
 no_value line [] = give tt
 no_value line _ = fail code.Args line

@@ -18,7 +18,11 @@ use Rattle.star_meaning.specs.Program.{Setting}
 use Rattle.star_meaning.specs.Values.{Content, Truth, Number, Held, content, with_content, type_name, want_int, want_bool, want_text, new_int, new_text, new_tuple, new_list, count_in, count_of, take_item, take_items, take_all, is_true, compare, repr, str}
 use Rattle.star_meaning.specs.declared.given.Arguments.{Arguments}
 use Rattle.star_meaning.specs.Arguments.{positional, with_name, only_one, none_or_one, one_or_two}
+use Rattle.star_meaning.specs.Attributes.{call_dir, call_getattr, call_hasattr}
+use Rattle.star_meaning.specs.Characters.{call_chr, call_ord}
 use Rattle.star_meaning.specs.Pairs.{pairs_count, pairs_of, dict_of}
+use Rattle.star_meaning.specs.Sorting.{in_order}
+use Rattle.star_meaning.specs.Structs.{call_struct}
 
 -- abs(x)
 abbrev pub absolute : ℕ → ℤ → Action Value
@@ -231,15 +235,6 @@ is_before (Number x) (Number y) = is_lt (int_cmp x y)
 is_before (Held (cell.Text t)) (Held (cell.Text u)) = is_lt (slice_cmp nat_cmp t u)
 is_before _ _ = false
 
--- an item among sorted ones, before those that it does not come after
-abbrev pub placed : (Value → Value → Bool) → Value → List Value → List Value
-placed before x [] = x ∷ []
-placed before x (y ∷ ys) = if before y x then y ∷ placed before x ys else x ∷ y ∷ ys
-
-abbrev pub in_order : (Value → Value → Bool) → List Value → List Value
-in_order before [] = []
-in_order before (x ∷ xs) = placed before x (in_order before xs)
-
 abbrev pub turned : Bool → List Value → List Value
 turned true xs = reverse xs
 turned false xs = xs
@@ -297,3 +292,9 @@ call_built_in w levels line built_in.Str g = call_str w levels line g
 call_built_in w levels line built_in.Tuple g = call_tuple w line g
 call_built_in w levels line built_in.Type g = call_type w line g
 call_built_in w levels line built_in.Zip g = call_zip w line g
+call_built_in w levels line built_in.Chr g = call_chr w line g
+call_built_in w levels line built_in.Dir g = call_dir w line g
+call_built_in w levels line built_in.Getattr g = call_getattr w line g
+call_built_in w levels line built_in.Hasattr g = call_hasattr w line g
+call_built_in w levels line built_in.Ord g = call_ord w line g
+call_built_in w levels line built_in.Struct g = call_struct line g

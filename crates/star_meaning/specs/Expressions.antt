@@ -15,7 +15,7 @@ use Rattle.star_meaning.specs.Program.{Setting, Variables}
 use Rattle.star_meaning.specs.Values.{is_true, check_key, new_text, new_tuple, new_list, new_dict, place_in}
 use Rattle.star_meaning.specs.Operators.{operate, prefix, comparison, with_entry}
 use Rattle.star_meaning.specs.Subscript.{index, slice}
-use Rattle.star_meaning.specs.Methods.{attribute}
+use Rattle.star_meaning.specs.Attributes.{attribute}
 use Rattle.star_meaning.specs.Semantics.{Semantics}
 use Rattle.star_meaning.specs.Calls.{call_node}
 use Rattle.star_meaning.specs.Comprehensions.{list_comprehension, dict_comprehension}

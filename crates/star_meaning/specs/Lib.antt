@@ -18,6 +18,10 @@ pub mod Arguments
 pub mod Binding
 pub mod Calls
 pub mod Pairs
+pub mod Sorting
+pub mod Attributes
+pub mod Structs
+pub mod Characters
 pub mod BuiltIns
 pub mod Format
 pub mod ListMethods

@@ -1,56 +1,19 @@
--- The methods: which a value has, and a call of each.
-use Rattle.std.specs.Prelude.{ℕ, nat_eq, true, false, ◌&&◌, List, [], ◌∷◌, Option, Some, None, codes, if◌then◌else◌}
-use Rattle.std.specs.Option.{option_map}
-use Rattle.std.specs.List.{find, starts_with, ends_with}
+-- A call of each method.
+use Rattle.std.specs.Prelude.{ℕ, nat_eq, true, false, List, codes}
+use Rattle.std.specs.List.{starts_with, ends_with}
 use Rattle.star_store.specs.declared.values.Value.{Value}
-use Rattle.star_store.specs.declared.values.Cell.TheVariants as cell
 use Rattle.star_store.specs.declared.names.Method.{Method}
 use Rattle.star_store.specs.declared.names.Method.TheVariants as method
-use Rattle.star_store.specs.Names.{method_name, receiver_type}
-use Rattle.star_strings.specs.Table.{named}
-use Rattle.star_dialect.specs.declared.Dialect.{Dialect}
-use Rattle.star_dialect.specs.declared.Dialect.TheVariants as dialect
 use Rattle.star_meaning.specs.declared.fault.FaultCode.TheVariants as code
-use Rattle.star_meaning.specs.Run.{Action, ◌>>=◌, fail, found, build}
-use Rattle.star_outline.specs.Names.{same_name}
+use Rattle.star_meaning.specs.Run.{Action, ◌>>=◌, fail}
 use Rattle.star_meaning.specs.Program.{Setting}
-use Rattle.star_meaning.specs.Values.{with_content, type_name, want_text}
+use Rattle.star_meaning.specs.Values.{want_text}
 use Rattle.star_meaning.specs.declared.given.Arguments.{Arguments}
 use Rattle.star_meaning.specs.ListMethods.{call_append, call_clear, call_extend, call_index, call_insert, call_pop, call_remove}
 use Rattle.star_meaning.specs.DictMethods.{call_get, call_items, call_keys, call_values, call_dict_pop, call_popitem, call_setdefault, call_update}
 use Rattle.star_meaning.specs.TextMethods.{call_edge, call_find, call_join, call_split, call_strip, call_case, call_replace, call_format}
 use Rattle.star_meaning.specs.TableMethods.{call_in_table, call_wider}
 use Rattle.star_meaning.specs.Texts.{lower, upper}
-
--- the methods of the core
-abbrev pub methods : List Method
-methods =
-    method.ListAppend ∷ method.ListClear ∷ method.ListExtend ∷ method.ListIndex ∷ method.ListInsert ∷ method.ListPop
-    ∷ method.ListRemove ∷ method.DictClear ∷ method.DictGet ∷ method.DictItems ∷ method.DictKeys ∷ method.DictPop
-    ∷ method.DictPopitem ∷ method.DictSetdefault ∷ method.DictUpdate ∷ method.DictValues ∷ method.StringEndswith
-    ∷ method.StringFind ∷ method.StringFormat ∷ method.StringJoin ∷ method.StringLower ∷ method.StringLstrip
-    ∷ method.StringReplace ∷ method.StringRstrip ∷ method.StringSplit ∷ method.StringStartswith ∷ method.StringStrip
-    ∷ method.StringUpper ∷ []
-
--- the method of the core with this name that a value of this type has
-abbrev pub core_method_of : List ℕ → List ℕ → Option Method
-core_method_of type name = find (λ m. same_name (receiver_type m) type && same_name (method_name m) name) methods
-
--- .. and in a dialect: in the extended language a string has those of the table, too
-abbrev pub or_in_table : Dialect → List ℕ → List ℕ → Option Method → Option Method
-or_in_table d type name (Some m) = Some m
-or_in_table dialect.Core type name None = None
-or_in_table dialect.Extended type name None =
-    if same_name (codes "string") type then option_map method.OfString (named name) else None
-
-abbrev pub method_of : Dialect → List ℕ → List ℕ → Option Method
-method_of d type name = or_in_table d type name (core_method_of type name)
-
--- x.m: a new bound method; one that the value does not have is `type`
-unfoldable pub attribute : Setting → ℕ → Value → List ℕ → Action Value
-attribute w line x name =
-    with_content w x (λ c. found code.BadType line (method_of w.dialect (type_name c) name))
-    >>= λ m. build line 1 (cell.Bound m x)
 
 -- a call of a method of a string with these bytes, on the values given
 abbrev pub on_text : Setting → ℕ → ℕ → Method → List ℕ → Arguments → Action Value

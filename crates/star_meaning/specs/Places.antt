@@ -16,7 +16,7 @@ use Rattle.star_scope.specs.declared.spot.Spot.{Spot}
 use Rattle.star_scope.specs.declared.spot.Spot.TheVariants as spot
 use Rattle.star_outline.specs.Names.{Names}
 use Rattle.star_outline.specs.Definitions.{AllDiffer}
-use Rattle.star_scope.specs.Places.{Spots, AllPlaced, IsPlaced}
+use Rattle.star_scope.specs.Places.{Outer, Spots, AllPlaced, IsPlaced}
 use Rattle.star_meaning.specs.Program.{Setting, Variables, names_of, blocks_of, published_of, seen}
 use Rattle.star_meaning.specs.Variables.{frame_of, bind_at, bind_name, by_names, outermost, read_name}
 use Rattle.star_meaning.specs.Module.{Ended, run_file, most_levels, start}
@@ -49,7 +49,7 @@ abbrev pub at_spot : Setting → State → Site → List ℕ → Option Spot →
 at_spot w s p name (Some (spot.Frame up slot)) = joined (slot_in w s slot (frame_above w s up (Some p.frame)))
 at_spot w s p name (Some spot.Prelude) =
     option_and_then (λ q. global_of name q.globals) (option_and_then (published_of w) w.prelude)
-at_spot w s p name (Some spot.Outermost) = global_of name outermost
+at_spot w s p name (Some spot.Outermost) = global_of name (outermost w.dialect)
 at_spot w s p name None = None
 
 unfoldable pub read_spot : Tables → Setting → Site → Name → Action Value
@@ -83,11 +83,15 @@ abbrev pub outer_names : Setting → ℕ → Option ℕ → Option Names
 outer_names w file None = None
 outer_names w file (Some prelude) = if nat_eq prelude file then None else Some (names_of w prelude 0)
 
+-- .. with the dialect
+abbrev pub outer_at : Setting → ℕ → Outer
+outer_at w file = record { names = outer_names w file w.prelude; dialect = w.dialect }
+
 -- the tables are right for a file: no two of its definitions have one number, each name that its statements use has the
 -- right spot, and each block as many slots as names
 pub record IsResolved (tables : Tables) (w : Setting) (file : ℕ) (statements : List Statement) : Type 0 where
   pub numbers : AllDiffer (map (λ d. d.number) (outline statements).definitions)
-  pub names : AllPlaced (tables.spots file) (blocks_of w file) (outer_names w file w.prelude) (uses statements)
+  pub names : AllPlaced (tables.spots file) (blocks_of w file) (outer_at w file) (uses statements)
   pub blocks : (number : ℕ) → tables.slots file number ≡ length (names_of w file number)
 
 -- a frame fits a block: it is that block's, and has a slot for each of its names
@@ -108,7 +112,7 @@ FitsChain w s file (b ∷ bs) frame =
 -- is by its name.
 abbrev pub SpotsMeanNames : Type 0
 SpotsMeanNames = (tables : Tables) (w : Setting) (p : Site) (n : Name) (chain : List ℕ) (s : State)
-    → IsPlaced (tables.spots p.file) (blocks_of w p.file) (outer_names w p.file w.prelude) (Named n chain)
+    → IsPlaced (tables.spots p.file) (blocks_of w p.file) (outer_at w p.file) (Named n chain)
     → FitsChain w s p.file chain (Some p.frame)
     → (read_spot tables w p n s ≡ read_name w p n s) × ((v : Value) → bind_spot tables p n v s ≡ bind_name w p n v s)
 

@@ -2,6 +2,7 @@
 use Rattle.std.specs.Prelude.{◌≡◌, ℕ, List, [], ◌∷◌, map, length, Option, Some, None, slice_get}
 use Rattle.std.specs.Option.{option_map, option_flatten}
 use denote.Ref.{Bor}
+use Rattle.star_dialect.specs.declared.Dialect.{Dialect}
 use Rattle.star_tree.specs.declared.tree.Statement.{Statement}
 use Rattle.star_scope.specs.declared.loads.Load.{Load}
 use Rattle.star_scope.specs.declared.program.Prelude.{Prelude}
@@ -10,7 +11,7 @@ use Rattle.star_scope.specs.declared.spot.Spot.{Spot}
 use Rattle.star_scope.specs.Loads.{Read}
 use Rattle.star_outline.specs.Outlines.{Outline, names_in, outline}
 use Rattle.star_scope.specs.Places.{Spots}
-use Rattle.star_scope.specs.Resolve.{IsProgram, prelude_names}
+use Rattle.star_scope.specs.Resolve.{IsProgram, Outside, prelude_names}
 use Rattle.star_scope.specs.Spots.{spot_at}
 use Rattle.star_meaning.specs.Program.{Setting}
 use Rattle.star_meaning.specs.Local.{Trees, outlines}
@@ -24,8 +25,8 @@ pub record PlacedFile : Type 0 where
 -- a program is the program of some file: the answer of `resolve` for it
 abbrev pub IsOfFile : Program → Type 0
 IsOfFile p =
-    (file : ℕ) × (prelude : Option Prelude) × (ss : List Statement) × (reads : List Read)
-    × IsProgram file prelude ss reads p
+    (file : ℕ) × (outside : Outside) × (ss : List Statement) × (reads : List Read)
+    × IsProgram file outside ss reads p
 
 -- files by their numbers: nothing for one that has no program, since its text does not parse or has a static fault
 abbrev pub Files : Type 0
@@ -87,15 +88,16 @@ abbrev pub prelude_in : Files → Option ℕ → Option Prelude
 prelude_in files prelude =
     option_map (λ n. record { file = n; names = prelude_names (option_flatten (slice_get (trees_of files) n)) }) prelude
 
--- each file has its program: the answer of `resolve` for the file with this number, which sees this prelude or is it
-abbrev pub ArePrograms : Files → Option ℕ → Type 0
-ArePrograms files prelude = (file : ℕ) (f : PlacedFile) → file_in files file ≡ Some f
+-- each file has its program: the answer of `resolve` for the file with this number, which sees this prelude or is it,
+-- in a dialect
+abbrev pub ArePrograms : Files → Option ℕ → Dialect → Type 0
+ArePrograms files prelude d = (file : ℕ) (f : PlacedFile) → file_in files file ≡ Some f
     → (reads : List Read) × (p : Program) × (placed_file p ≡ f)
-    × IsProgram file (prelude_in files prelude) f.statements reads p
+    × IsProgram file (record { prelude = prelude_in files prelude; dialect = d }) f.statements reads p
 
 -- The law: the tables that the programs of files give are right for each of these files.
 abbrev pub ProgramsPlaceNames : Type 0
 ProgramsPlaceNames = (files : Files) (w : Setting)
     → w.outlines ≡ outlines (trees_of files)
-    → ArePrograms files w.prelude
+    → ArePrograms files w.prelude w.dialect
     → (file : ℕ) (ss : List Statement) → Stands (trees_of files) file ss → IsResolved (tables_of files) w file ss

@@ -63,6 +63,7 @@ type_name (Held (cell.Dict es)) = codes "dict"
 type_name (Held (cell.Func f)) = codes "function"
 type_name (Held (cell.Frame f)) = []
 type_name (Held (cell.Bound m v)) = codes "builtin_function_or_method"
+type_name (Held (cell.Struct fs)) = codes "struct"
 type_name Nowhere = []
 
 -- the int, the bool or the bytes of the string that a value is

@@ -1,6 +1,6 @@
 -- Variables by their names: a frame is a finite map from the names of its block to a value, or to nothing if the name
 -- is unbound.
-use Rattle.std.specs.Prelude.{ℕ, zero, suc, nat_eq, Bool, true, false, not, ◌&&◌, List, [], ◌∷◌, length, replicate, map, Option, Some, None, slice_get, if◌then◌else◌, codes}
+use Rattle.std.specs.Prelude.{ℕ, zero, suc, nat_eq, Bool, true, false, not, ◌&&◌, List, [], ◌∷◌, ◌++◌, length, replicate, map, Option, Some, None, slice_get, if◌then◌else◌, codes}
 use Rattle.std.specs.List.{list_any}
 use Rattle.std.specs.Option.{option_and_then}
 use Rattle.star_store.specs.declared.values.Value.{Value}
@@ -12,6 +12,8 @@ use Rattle.star_store.specs.declared.names.BuiltIn.{BuiltIn}
 use Rattle.star_store.specs.declared.names.BuiltIn.TheVariants as built_in
 use Rattle.star_store.specs.Names.{built_in_name}
 use Rattle.star_store.specs.Store.{bound, global_of}
+use Rattle.star_dialect.specs.declared.Dialect.{Dialect}
+use Rattle.star_dialect.specs.declared.Dialect.TheVariants as dialect
 use Rattle.star_tree.specs.declared.tree.Name.{Name}
 use Rattle.star_meaning.specs.declared.fault.FaultCode.TheVariants as code
 use Rattle.star_meaning.specs.declared.site.Site.{Site}
@@ -41,19 +43,27 @@ nearest w s name (suc n) frame =
     else_in (option_and_then (in_frame w name) (option_and_then (λ v. frame_of (seen w s v)) frame))
     (nearest w s name n (option_and_then (λ f. f.parent) (option_and_then (λ v. frame_of (seen w s v)) frame)))
 
--- the built-in functions
-abbrev pub built_ins : List BuiltIn
-built_ins =
+-- the built-in functions of the core, and the further ones of the extended language
+abbrev pub core_built_ins : List BuiltIn
+core_built_ins =
     built_in.Abs ∷ built_in.All ∷ built_in.Any ∷ built_in.Bool ∷ built_in.Dict ∷ built_in.Enumerate ∷ built_in.Fail
     ∷ built_in.Int ∷ built_in.Len ∷ built_in.List ∷ built_in.Max ∷ built_in.Min ∷ built_in.Print ∷ built_in.Range
     ∷ built_in.Repr ∷ built_in.Reversed ∷ built_in.Sorted ∷ built_in.Str ∷ built_in.Tuple ∷ built_in.Type ∷ built_in.Zip
     ∷ []
 
+abbrev pub further_built_ins : List BuiltIn
+further_built_ins =
+    built_in.Chr ∷ built_in.Dir ∷ built_in.Getattr ∷ built_in.Hasattr ∷ built_in.Ord ∷ built_in.Struct ∷ []
+
+abbrev pub built_ins : Dialect → List BuiltIn
+built_ins dialect.Core = core_built_ins
+built_ins dialect.Extended = core_built_ins ++ further_built_ins
+
 -- the names of the outermost block, with their values
-abbrev pub outermost : List (List ℕ × Value)
-outermost =
+abbrev pub outermost : Dialect → List (List ℕ × Value)
+outermost d =
     (codes "None", value.NoneValue) ∷ (codes "True", value.Bool true) ∷ (codes "False", value.Bool false)
-    ∷ map (λ b. (built_in_name b, value.Builtin b)) built_ins
+    ∷ map (λ b. (built_in_name b, value.Builtin b)) (built_ins d)
 
 -- whether the prelude's block has a name: its file's own block binds it, and it is not private
 abbrev pub prelude_has : Setting → List ℕ → ℕ → Bool
@@ -61,15 +71,15 @@ prelude_has w name file = not (is_private name) && list_any (same_name name) (na
 
 -- the value of a name outside of the file: a name of the prelude, which may be unbound there, else one of the outermost
 -- block
-abbrev pub outside_prelude : ℕ → List ℕ → Action Value
-outside_prelude line name = found code.Unbound line (global_of name outermost)
+abbrev pub outside_prelude : Dialect → ℕ → List ℕ → Action Value
+outside_prelude d line name = found code.Unbound line (global_of name (outermost d))
 
 abbrev pub outside : Setting → Option ℕ → ℕ → ℕ → List ℕ → Action Value
-outside w None file line name = outside_prelude line name
+outside w None file line name = outside_prelude w.dialect line name
 outside w (Some prelude) file line name =
     if not (nat_eq prelude file) && prelude_has w name prelude
     then found code.Unbound line (option_and_then (λ p. global_of name p.globals) (published_of w prelude))
-    else outside_prelude line name
+    else outside_prelude w.dialect line name
 
 -- the value of a name: in the nearest frame that has it, where it may be unbound, else outside of the file
 abbrev pub read_found : Setting → Site → List ℕ → Option (Option Value) → Action Value

@@ -1,5 +1,5 @@
 -- Ends that last though files that they need have changed.
-use Rattle.std.proofs.Common.{◌≡◌, ◌⊎◌, inl, inr, ℕ, nat_eq, eqb-true, Bool, true, false, List, [], ◌∷◌, ◌++◌, length, map, Option, Some, None, Ok, refl, ap, sym, subst, ◌∙◌}
+use Rattle.std.proofs.Common.{◌≡◌, ◌⊎◌, inl, inr, ℕ, nat_eq, eqb-true, get_or, Bool, true, false, List, [], ◌∷◌, ◌++◌, length, map, Option, Some, None, Ok, refl, ap, sym, subst, ◌∙◌}
 use Rattle.std.specs.Arc.{arc_value}
 use Rattle.std.specs.Prelude.{All, Contains, IfSome, slice_get, slice_set}
 use Rattle.std.proofs.lemmas.Bool.Decides.{Decides-eqb}
@@ -12,9 +12,8 @@ use Rattle.star_store.specs.Store.{Published}
 use Rattle.star_tree.specs.declared.tree.Statement.{Statement}
 use Rattle.star_outline.specs.Syntax.{position_of}
 use Rattle.star_scope.specs.declared.loads.Load.{Load}
-use Rattle.star_scope.specs.declared.program.Prelude.{Prelude}
 use Rattle.star_scope.specs.declared.program.Program.{Program}
-use Rattle.star_scope.specs.Resolve.{Resolves}
+use Rattle.star_scope.specs.Resolve.{Outside, Resolves, outside}
 use Rattle.star_meaning.specs.Module.{most_levels}
 use Rattle.star_plan.specs.Plan.{Plan, Sound, loaded, loads_in, loads_of, read_of, tree_in}
 use Rattle.star_plan.specs.Reached.{IsReached, load}
@@ -54,16 +53,16 @@ alone before files prelude n alike text = record {
 }
 
 -- it has the same loads
-pub loads_too : (before files : List File) (prelude : Option ℕ) (n : ℕ) (loads : List ℕ) → AreAlike before files prelude → text_at before n ≡ text_at files n → AreLoadsUnder before prelude n loads → AreLoadsUnder files prelude n loads
-loads_too before files prelude n loads alike text are = loads_stay before files prelude (nat_eq n) (alone before files prelude n alike text) n loads (itself n) are
+pub loads_too : (before files : List File) (prelude : Option ℕ) (mode : Mode) (n : ℕ) (loads : List ℕ) → AreAlike before files prelude → text_at before n ≡ text_at files n → AreLoadsUnder before prelude mode n loads → AreLoadsUnder files prelude mode n loads
+loads_too before files prelude mode n loads alike text are = loads_stay before files prelude mode (nat_eq n) (alone before files prelude n alike text) n loads (itself n) are
 
 -- .. and one reading in a run of the files before and a run of the files after
-one_reading : (before files : List File) (prelude : Option ℕ) (n : ℕ) (p q : Plan) → AreAlike before files prelude → text_at before n ≡ text_at files n → IsPlanOf before p → p.prelude ≡ prelude → IsPlanOf files q → q.prelude ≡ prelude → IsReached p n → IsReached q n → read_of p n ≡ read_of q n
-one_reading before files prelude n p q alike text is at also too x y =
+one_reading : (before files : List File) (prelude : Option ℕ) (n : ℕ) (p q : Plan) → AreAlike before files prelude → text_at before n ≡ text_at files n → IsPlanOf before p → p.prelude ≡ prelude → IsPlanOf files q → q.prelude ≡ prelude → p.mode ≡ q.mode → IsReached p n → IsReached q n → read_of p n ≡ read_of q n
+one_reading before files prelude n p q alike text is at also too modes x y =
     let same : HaveSame (nat_eq n) p.prelude before files = subst (λ o. HaveSame (nat_eq n) o before files) (sym at) (alone before files prelude n alike text) in
-    one_reading_by_texts before files p q (nat_eq n) alike.ordered is also (at ∙ sym too) same n (itself n) x y
+    one_reading_by_texts before files p q (nat_eq n) alike.ordered is also (at ∙ sym too) (ap (λ (m : Mode). m.dialect) modes) same n (itself n) x y
 
-program_read : (files : List File) (block : Option Prelude) (n : ℕ) (pr : Program) → IsReadAs files block n (read.Program pr) → IsRead files block n (Sound pr.statements.now pr.loads.items)
+program_read : (files : List File) (block : Outside) (n : ℕ) (pr : Program) → IsReadAs files block n (read.Program pr) → IsRead files block n (Sound pr.statements.now pr.loads.items)
 program_read files block n pr (tree, parses, same, resolves) =
     (tree, parses, sym same, (pr, subst (λ (ss : List Statement). Resolves files n block ss (Ok pr)) (sym same) resolves, refl))
 
@@ -79,17 +78,19 @@ pub record SharesBy (c : Change) (n m : ℕ) : Type 0 where
 
 module _ (c : Change) (is : IsChange c) (n m : ℕ) (text : text_at c.compared.now.before n ≡ text_at c.compared.now.files n) (load_is : LoadsNow c n m) (s : SharesBy c n m) (p q : Plan) (plan_p : IsPlanOf c.compared.now.before p) (prelude_p : p.prelude ≡ c.terms.prelude) (mode_p : p.mode ≡ c.terms.mode) (at_p : IsReached p n) (plan_q : IsPlanOf c.compared.now.files q) (prelude_q : q.prelude ≡ c.terms.prelude) (mode_q : q.mode ≡ c.terms.mode) (at_q : IsReached q n) where
   same_read : read_of p n ≡ read_of q n
-  same_read = one_reading c.compared.now.before c.compared.now.files c.terms.prelude n p q is.alike text plan_p prelude_p plan_q prelude_q at_p at_q
+  same_read = one_reading c.compared.now.before c.compared.now.files c.terms.prelude n p q is.alike text plan_p prelude_p plan_q prelude_q (mode_p ∙ sym mode_q) at_p at_q
 
   read_in : read_of p n ≡ Some (Sound s.program.statements.now s.program.loads.items)
   read_in =
       let row = c.reads.now in
       let less = slice_get_within row n (Some (read.Program s.program)) s.there in
       let there : IsPrelude c.compared.now.files c.terms.prelude plan_q.prelude = subst (λ o. IsPrelude c.compared.now.files o plan_q.prelude) prelude_q plan_q.prelude_is in
-      let place : IsPlaceOf c.compared.now.files plan_q.prelude n (Some (read.Program s.program)) = subst (IsPlaceOf c.compared.now.files plan_q.prelude n) (get_or_from_slice_get row n (Some (read.Program s.program)) None s.there) (is.reads plan_q.prelude there n None less) in
+      let seen : Outside = outside plan_q.prelude q.mode.dialect in
+      let known = subst (λ (m : Mode). IsPlaceOf c.compared.now.files (outside plan_q.prelude m.dialect) n (get_or row n None)) (sym mode_q) (is.reads plan_q.prelude there n None less) in
+      let place : IsPlaceOf c.compared.now.files seen n (Some (read.Program s.program)) = subst (IsPlaceOf c.compared.now.files seen n) (get_or_from_slice_get row n (Some (read.Program s.program)) None s.there) known in
       let one = (plan_q.reached n).0 at_q in
       let ordered = ordered_to c.compared.now.before c.compared.now.files is.alike.labels is.alike.ordered in
-      let same : one.0 ≡ Sound s.program.statements.now s.program.loads.items = one-reading c.compared.now.files plan_q.prelude n ordered one.0 (Sound s.program.statements.now s.program.loads.items) (plan_q.right n one.0 one.1) (program_read c.compared.now.files plan_q.prelude n s.program place) in
+      let same : one.0 ≡ Sound s.program.statements.now s.program.loads.items = one-reading c.compared.now.files seen n ordered one.0 (Sound s.program.statements.now s.program.loads.items) (plan_q.right n one.0 one.1) (program_read c.compared.now.files seen n s.program place) in
       same_read ∙ (one.1 ∙ ap Some same)
 
   loads_q : Contains (loaded q n) m
@@ -133,7 +134,7 @@ module _ (before files : List File) (prelude : Option ℕ) (mode : Mode) (marks 
   in_q n b = (also.reached n).1 b.other
 
   reads : (n : ℕ) → InBoth (is_marked marks) p q n → read_of p n ≡ read_of q n
-  reads n b = one_reading before files prelude n p q alike (last n b.within).text is at also too (in_p n b) (in_q n b)
+  reads n b = one_reading before files prelude n p q alike (last n b.within).text is at also too (paid ∙ sym within) (in_p n b) (in_q n b)
 
   -- a file in both: one that is marked, and reached in both
   here_too : (n : ℕ) → is_marked marks n ≡ true → IsReached p n → IsReached q n → both (is_marked marks) p q n ≡ true
@@ -196,7 +197,7 @@ module _ (before files : List File) (prelude : Option ℕ) (mode : Mode) (marks 
 -- an end that a marked file had before is its end now, but for the stores of other files
 pub ends_last : KeptResultsStay → (before files : List File) (prelude : Option ℕ) (mode : Mode) (marks : List Bool) → AreAlike before files prelude → AllLast before files prelude mode marks → HasPreludeMarked prelude marks → (n : ℕ) (e s : GoodEnd) → is_marked marks n ≡ true → IsOutcome before prelude mode n e → s ≡ record e { is_stale = true } → IsEndNow files prelude mode n s
 ends_last law before files prelude mode marks alike last first n e s m o stale =
-    let loads = loads_stay before files prelude (is_marked marks) (same before files prelude mode marks alike last) n e.loads.items m o.loads in
+    let loads = loads_stay before files prelude mode (is_marked marks) (same before files prelude mode marks alike last) n e.loads.items m o.loads in
     let run = o.run in
     subst (IsEndNow files prelude mode n) (sym stale) (record {
       loads = loads;
@@ -210,13 +211,13 @@ ends_last law before files prelude mode marks alike last first n e s m o stale =
 -- ---- more marks
 
 -- the loads of an end after the change, or before it
-pub end_loads : (c : Change) → IsChange c → (n : ℕ) (e : GoodEnd) → text_at c.compared.now.before n ≡ text_at c.compared.now.files n → (slice_get c.ends.now n ≡ Some (Some e)) ⊎ (slice_get c.former.now n ≡ Some (Some e)) → AreLoadsUnder c.compared.now.files c.terms.prelude n e.loads.items
+pub end_loads : (c : Change) → IsChange c → (n : ℕ) (e : GoodEnd) → text_at c.compared.now.before n ≡ text_at c.compared.now.files n → (slice_get c.ends.now n ≡ Some (Some e)) ⊎ (slice_get c.former.now n ≡ Some (Some e)) → AreLoadsUnder c.compared.now.files c.terms.prelude c.terms.mode n e.loads.items
 end_loads c is n e text at = by_cases at
     (λ h. (is.ends n e h).loads)
-    (λ h. loads_too c.compared.now.before c.compared.now.files c.terms.prelude n e.loads.items is.alike text (is.former n e h).loads)
+    (λ h. loads_too c.compared.now.before c.compared.now.files c.terms.prelude c.terms.mode n e.loads.items is.alike text (is.former n e h).loads)
 
 -- of these files each is marked, or shared by the file n: so its end lasts
-pub lasts_by : (c : Change) → IsChange c → (marks : List Bool) (n : ℕ) (loads : List ℕ) → text_at c.compared.now.before n ≡ text_at c.compared.now.files n → AreLoadsUnder c.compared.now.files c.terms.prelude n loads → All (IsMarkedOrShared c marks n) loads → LastsOver c marks n
+pub lasts_by : (c : Change) → IsChange c → (marks : List Bool) (n : ℕ) (loads : List ℕ) → text_at c.compared.now.before n ≡ text_at c.compared.now.files n → AreLoadsUnder c.compared.now.files c.terms.prelude c.terms.mode n loads → All (IsMarkedOrShared c marks n) loads → LastsOver c marks n
 lasts_by c is marks n loads text are all = record {
   text = text;
   loads = loads;

@@ -4,9 +4,10 @@ use Rattle.std.specs.Prelude.{IfSome, slice_set}
 use Rattle.std.proofs.lemmas.Bool.{cases_order}
 use Rattle.std.proofs.lemmas.List.{get_or-set_other, get_or-set_same, length-set}
 use Rattle.std.proofs.lemmas.Option.{get_or_from_slice_get, slice_get-get_or, slice_get_within}
+use Rattle.star_dialect.specs.declared.Dialect.{Dialect}
 use Rattle.star_label.specs.Files.{File, text_at}
 use Rattle.star_parser.specs.Sources.{Parses}
-use Rattle.star_scope.specs.declared.program.Prelude.{Prelude}
+use Rattle.star_scope.specs.Resolve.{Outside, outside}
 use Rattle.star_plan.specs.Plan.{Faulty}
 use Rattle.star_reading.specs.Codes.{fault_of}
 use Rattle.star_reading.specs.Parsed.{AreParsesOf, IsParsed, ParsedView}
@@ -78,15 +79,17 @@ all_left before files n old new labels all left = record {
 
 pub record StayBelow (before files : List File) (n : ℕ) (old new : Readings) : Type 0 where
   pub prelude : new.prelude ≡ old.prelude
+  pub dialect : new.dialect ≡ old.dialect
   pub reads : LeftBelow before files n old.reads.all.items new.reads.all.items
   pub parses : LeftBelow before files n old.parses.items new.parses.items
 
 pub none_stay : (before files : List File) (r : Readings) → StayBelow before files 0 r r
-none_stay before files r = record { prelude = refl; reads = none_left before files r.reads.all.items; parses = none_left before files r.parses.items }
+none_stay before files r = record { prelude = refl; dialect = refl; reads = none_left before files r.reads.all.items; parses = none_left before files r.parses.items }
 
 pub more_stay : (before files : List File) (n : ℕ) (old new : Readings) → text_at before n ≡ text_at files n → StayBelow before files n old new → StayBelow before files (n + 1) old new
 more_stay before files n old new text s = record {
   prelude = s.prelude;
+  dialect = s.dialect;
   reads = one_stays before files n old.reads.all.items new.reads.all.items text s.reads;
   parses = one_stays before files n old.parses.items new.parses.items text s.parses;
 }
@@ -112,20 +115,20 @@ none_more (y ∷ ys) (suc n) x h = none_more ys n x h
 -- ---- readings of files whose texts stay
 
 module _ (before files : List File) (labels : HaveLabels before files) where
-  read_stays : (block : Option Prelude) (n : ℕ) (r : Read) → text_at before n ≡ text_at files n → IsReadAs before block n r → IsReadAs files block n r
+  read_stays : (block : Outside) (n : ℕ) (r : Read) → text_at before n ≡ text_at files n → IsReadAs before block n r → IsReadAs files block n r
   read_stays block n (read.Program p) text (tree, parses, are, resolves) = (tree, subst (λ t. Parses t (Ok tree)) text parses, are, resolved_to before files labels n block tree.statements p resolves)
   read_stays block n (read.Fault f) text is = read_to before files labels block n (Faulty (fault_of f)) text is
 
-  place_stays : (block : Option Prelude) (n : ℕ) (o : Option Read) → ((r : Read) → o ≡ Some r → IsReadAs files block n r) → IsPlaceOf files block n o
+  place_stays : (block : Outside) (n : ℕ) (o : Option Read) → ((r : Read) → o ≡ Some r → IsReadAs files block n r) → IsPlaceOf files block n o
   place_stays block n None h = tt
   place_stays block n (Some r) h = h r refl
 
-  pub known_stay : (prelude : Option ℕ) (old new : Row) → ((q : ℕ) → prelude ≡ Some q → text_at before q ≡ text_at files q) → AreLeft before files old new → AreKnown before prelude old → AreKnown files prelude new
-  known_stay prelude old new same left known = λ block is n d less. place_stays block n (get_or new n d) (λ r e.
+  pub known_stay : (prelude : Option ℕ) (m : Dialect) (old new : Row) → ((q : ℕ) → prelude ≡ Some q → text_at before q ≡ text_at files q) → AreLeft before files old new → AreKnown before prelude m old → AreKnown files prelude m new
+  known_stay prelude m old new same left known = λ block is n d less. place_stays (outside block m) n (get_or new n d) (λ r e.
       let at = at_place new n d (Some r) less e in
       let was = left.there n r at in
       let entry = known block (prelude_to files before prelude block (λ q h. sym (same q h)) is) n d (slice_get_within old n (Some r) was) in
-      read_stays block n r (left.texts n r at) (subst (λ o. IsPlaceOf before block n o) (get_or_from_slice_get old n (Some r) d was) entry))
+      read_stays (outside block m) n r (left.texts n r at) (subst (λ o. IsPlaceOf before (outside block m) n o) (get_or_from_slice_get old n (Some r) d was) entry))
 
 -- ---- results of parsing
 
@@ -162,8 +165,8 @@ parse_set files row k v inside is all n d h = by_cases (same_or_not n k) here ot
 
 -- ---- all readings
 
-pub readings_stay : (before files : List File) (prelude : Option ℕ) (old new : Readings) → HaveLabels before files → ((q : ℕ) → prelude ≡ Some q → text_at before q ≡ text_at files q) → old.prelude ≡ prelude → new.prelude ≡ old.prelude → StayIn before files old new → AreReadings before old → AreReadings files new
-readings_stay before files prelude old new labels text was same stay are = record {
-  reads = known_stay before files labels new.prelude old.reads.all.items new.reads.all.items (λ q e. text q (sym was ∙ sym same ∙ e)) stay.reads (subst (λ p. AreKnown before p old.reads.all.items) (sym same) are.reads);
+pub readings_stay : (before files : List File) (prelude : Option ℕ) (old new : Readings) → HaveLabels before files → ((q : ℕ) → prelude ≡ Some q → text_at before q ≡ text_at files q) → old.prelude ≡ prelude → new.prelude ≡ old.prelude → new.dialect ≡ old.dialect → StayIn before files old new → AreReadings before old → AreReadings files new
+readings_stay before files prelude old new labels text was same dialects stay are = record {
+  reads = known_stay before files labels new.prelude new.dialect old.reads.all.items new.reads.all.items (λ q e. text q (sym was ∙ sym same ∙ e)) stay.reads (subst (λ p. AreKnown before p new.dialect old.reads.all.items) (sym same) (subst (λ d. AreKnown before old.prelude d old.reads.all.items) (sym dialects) are.reads));
   parses = parses_stay before files old.parses.items new.parses.items stay.parses are.parses;
 }

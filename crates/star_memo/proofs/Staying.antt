@@ -37,7 +37,7 @@ one_of p ns n h c = one_at p ns n c.0 c.1 c.2 h
 same : (files others : List File) (prelude : Option ℕ) (all : List (Option GoodEnd)) (marks : List Bool) → HaveLabels files others → ((q : ℕ) → prelude ≡ Some q → text_at files q ≡ text_at others q) → AreStaying files others all marks → HaveSame (is_marked marks) prelude files others
 same files others prelude all marks l p h = record { labels = l; texts = λ n m. (h n m).text; prelude_text = p }
 
-closed : (files others : List File) (prelude : Option ℕ) (mode : Mode) (all : List (Option GoodEnd)) (marks : List Bool) → AreOutcomes files prelude mode all → AreStaying files others all marks → IsClosed files prelude (is_marked marks)
+closed : (files others : List File) (prelude : Option ℕ) (mode : Mode) (all : List (Option GoodEnd)) (marks : List Bool) → AreOutcomes files prelude mode all → AreStaying files others all marks → IsClosed files prelude mode (is_marked marks)
 closed files others prelude mode all marks are h = λ n m.
     let s = h n m in (
       s.end.loads.items,
@@ -58,15 +58,15 @@ texts_stay files others prelude mode all marks are h plan planned p s (suc k) n 
     texts_stay files others prelude mode all marks are h plan planned p s k u m rest (load reached first) (one_of (is_marked marks) stay.end.loads.items u stay.loads among)
 
 -- so they are closed among the files that take their place
-closed_too : (files others : List File) (prelude : Option ℕ) (is_in : ℕ → Bool) → HaveSame is_in prelude files others → IsClosed files prelude is_in → IsClosed others prelude is_in
-closed_too files others prelude is_in s c = λ n h.
-    let own_loads = c n h in (own_loads.0, loads_stay files others prelude is_in s n own_loads.0 h own_loads.1, own_loads.2)
+closed_too : (files others : List File) (prelude : Option ℕ) (mode : Mode) (is_in : ℕ → Bool) → HaveSame is_in prelude files others → IsClosed files prelude mode is_in → IsClosed others prelude mode is_in
+closed_too files others prelude mode is_in s c = λ n h.
+    let own_loads = c n h in (own_loads.0, loads_stay files others prelude mode is_in s n own_loads.0 h own_loads.1, own_loads.2)
 
 -- a run that reaches a marked file has one of the files that take their place
-run_stays : (files others : List File) (prelude : Option ℕ) (mode : Mode) (is_in : ℕ → Bool) → HaveSame is_in prelude files others → IsClosed files prelude is_in → (n : ℕ) → is_in n ≡ true → HasRun files prelude mode n → HasRun others prelude mode n
+run_stays : (files others : List File) (prelude : Option ℕ) (mode : Mode) (is_in : ℕ → Bool) → HaveSame is_in prelude files others → IsClosed files prelude mode is_in → (n : ℕ) → is_in n ≡ true → HasRun files prelude mode n → HasRun others prelude mode n
 run_stays files others prelude mode is_in s c n m (p, is, at, paid, reached) =
     let back : HaveSame is_in p.prelude others files = subst (λ o. HaveSame is_in o others files) (sym at) (same_back is_in prelude files others s) in
-    let again : IsClosed others p.prelude is_in = subst (λ o. IsClosed others o is_in) (sym at) (closed_too files others prelude is_in s c) in
+    let again : IsClosed others p.prelude p.mode is_in = subst (λ (m : Mode). IsClosed others p.prelude m is_in) (sym paid) (subst (λ o. IsClosed others o mode is_in) (sym at) (closed_too files others prelude mode is_in s c)) in
     let one = (is.reached n).0 reached in
     (own is_in p, own_is others files p is_in is back again, at, paid, root_there is_in p n one.0 (to_common is_in p n m ∙ one.1))
 
@@ -76,7 +76,7 @@ stays files others prelude mode all marks ordered l p are h n e m k =
     let c = closed files others prelude mode all marks are h in
     let o = are n e k in
     record {
-      loads = loads_stay files others prelude (is_marked marks) s n e.loads.items m o.loads;
+      loads = loads_stay files others prelude mode (is_marked marks) s n e.loads.items m o.loads;
       body = bodies_stay (arc_value e.body) files others prelude mode (is_marked marks) ordered s c n m o.body;
       run = run_stays files others prelude mode (is_marked marks) s c n m o.run;
       fresh = o.fresh;
@@ -110,7 +110,7 @@ pub left_by : (files : List File) (plan : Plan) (all : List (Option GoodEnd)) �
 left_by files plan all ordered planned are = λ n e k.
     let o = are n e k in
     record {
-      loads = subst (λ ns. AreLoadsUnder files plan.prelude n ns) (sym o.1.loads) (loads_for_all_roots files plan ordered planned n o.0);
+      loads = subst (λ ns. AreLoadsUnder files plan.prelude plan.mode n ns) (sym o.1.loads) (loads_for_all_roots files plan ordered planned n o.0);
       body = bodies_for_all_roots files plan ordered planned n (arc_value e.body) o.0 (fresh_body plan n e o.1 o.2);
       run = (plan, planned, refl, refl, o.0);
       fresh = o.2;

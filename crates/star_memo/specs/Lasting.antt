@@ -26,7 +26,7 @@ use Rattle.star_memo.specs.declared.outcomes.Terms.{Terms}
 -- this is the good end of the file n, which may be stale, in each run of these files with this prelude and this mode,
 -- whatever the roots; and these are the files that it loads
 pub record IsEndNow (files : List File) (prelude : Option ℕ) (mode : Mode) (n : ℕ) (e : GoodEnd) : Type 0 where
-  pub loads : AreLoadsUnder files prelude n e.loads.items
+  pub loads : AreLoadsUnder files prelude mode n e.loads.items
   pub end : InEachPlan files prelude mode n (λ plan. IsGoodEnd plan n e)
 
 -- so it is with whatever is there for a file, by its number
@@ -82,7 +82,7 @@ SharesIn before files prelude mode n m =
 pub record Lasts (before files : List File) (prelude : Option ℕ) (mode : Mode) (marks : List Bool) (n : ℕ) : Type 0 where
   pub text : text_at before n ≡ text_at files n
   pub loads : List ℕ
-  pub are_loads : AreLoadsUnder files prelude n loads
+  pub are_loads : AreLoadsUnder files prelude mode n loads
   pub each : (m : ℕ) → Contains loads m → (is_marked marks m ≡ true) ⊎ SharesIn before files prelude mode n m
 
 -- so it is with all marked files. Then an end that one of them had before is its end now, but for the stores of other
@@ -104,7 +104,7 @@ pub record IsChange (c : Change) : Type 0 where
   pub alike : AreAlike c.compared.now.before c.compared.now.files c.terms.prelude
   pub former : AreOutcomes c.compared.now.before c.terms.prelude c.terms.mode c.former.now
   pub ends : AreOutcomes c.compared.now.files c.terms.prelude c.terms.mode c.ends.now
-  pub reads : AreKnown c.compared.now.files c.terms.prelude c.reads.now
+  pub reads : AreKnown c.compared.now.files c.terms.prelude c.terms.mode.dialect c.reads.now
 
 -- these are the stores of the file n before and after the change: in each run that reaches it they are its own
 pub record AreStoresOf (c : Change) (n : ℕ) (s : StoresView) : Type 0 where
@@ -118,7 +118,8 @@ AreAllStores c all = (n : ℕ) (s : StoresView) → slice_get all n ≡ Some (So
 
 -- the file n loads m after the change
 abbrev pub LoadsNow : Change → ℕ → ℕ → Type 0
-LoadsNow c n m = (loads : List ℕ) × AreLoadsUnder c.compared.now.files c.terms.prelude n loads × Contains loads m
+LoadsNow c n m =
+    (loads : List ℕ) × AreLoadsUnder c.compared.now.files c.terms.prelude c.terms.mode n loads × Contains loads m
 
 -- the file n shares what it loads of m in each run before and each run after the change
 abbrev pub SharesAcross : Change → ℕ → ℕ → Type 0

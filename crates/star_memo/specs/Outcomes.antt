@@ -18,7 +18,7 @@ HasRun files prelude mode n =
 -- this is the outcome of the file n: the files that it loads, and the body with which it ends in each run of these files
 -- with this prelude and this mode, whatever the roots. There is such a run, and the outcome is not stale
 pub record IsOutcome (files : List File) (prelude : Option ℕ) (mode : Mode) (n : ℕ) (e : GoodEnd) : Type 0 where
-  pub loads : AreLoadsUnder files prelude n e.loads.items
+  pub loads : AreLoadsUnder files prelude mode n e.loads.items
   pub body : IsBodyUnder files prelude mode n (arc_value e.body)
   pub run : HasRun files prelude mode n
   pub fresh : e.is_stale ≡ false

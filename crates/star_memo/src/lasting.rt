@@ -235,7 +235,8 @@ impl<'a, 't> Change<'a, 't> {
         requires change { IsChange self.now }
         requires stores { AreAllStores self.now stores.now }
         requires text { text_at self.now.compared.now.before n ≡ text_at self.now.compared.now.files n }
-        requires loads { AreLoadsUnder self.now.compared.now.files self.now.terms.prelude n loads.now }
+        requires loads { let c = self.now in
+            AreLoadsUnder c.compared.now.files c.terms.prelude c.terms.mode n loads.now }
         ensures { result ≡ true → All (IsMarkedOrShared self.now marks.now n) loads.now }
     {
         for m in loads {

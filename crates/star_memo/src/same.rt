@@ -3,10 +3,11 @@
 
 ghost use Rattle.std.specs.Prelude.{◌≡◌, ◌∷◌, [], IfOk, IfSome, Some, true};
 ghost use Rattle.star_store.specs.Write.{cell_at};
-ghost use Rattle.star_needs.specs.Changed.{one_range, same_at, same_cell, same_entries, same_items, same_value};
+ghost use Rattle.star_needs.specs.Changed.{one_range, same_at, same_cell, same_entries, same_fields, same_items, same_value};
 ghost use Rattle.star_memo.specs.Lasting.{IsShared, is_data};
 
 use star_store::arena::{Arena, Frozen, Homes};
+use star_store::fields::Fields;
 use star_store::range::Range;
 use star_store::values::{Cell, Value};
 use std::alloc::{AllocError, Global};
@@ -176,8 +177,32 @@ fn are_one<'a>(
         (Cell::Dict(xs), Cell::Dict(ys)) => {
             have_same(stores, levels, cells, xs.as_slice(), ys.as_slice())
         }
+        (Cell::Struct(s), Cell::Struct(t)) => {
+            are_fields(stores, levels, cells, s.get(), t.get())
+        }
         _ => false,
     }
+}
+
+/// Whether two structs have the same names, and the same data.
+#[cycle(same)]
+fn are_fields<'a>(
+    stores: &Stores<'a>,
+    levels: u32,
+    cells: &mut usize,
+    s: &Fields,
+    t: &Fields,
+) -> bool
+    ensures { result ≡ true → same_fields (is_data stores.now levels) s.now t.now ≡ true }
+{
+    s.has_names_of(t)
+        && are_same(
+            stores,
+            levels,
+            cells,
+            s.values().as_slice(),
+            t.values().as_slice(),
+        )
 }
 
 /// Whether two rows of items are the same data.

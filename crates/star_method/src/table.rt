@@ -160,7 +160,7 @@ fn want_arguments(
 }
 
 /// A new string for each text.
-fn new_texts(machine: &mut Machine, line: usize, texts: &[Text]) -> Result<Values, EvalError>
+pub fn new_texts(machine: &mut Machine, line: usize, texts: &[Text]) -> Result<Values, EvalError>
     ensures { Refines (each (new_text line) texts.now machine.old) result machine.new }
 {
     let mut made = Vec::new(machine.alloc());

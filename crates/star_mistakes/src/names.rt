@@ -7,6 +7,7 @@
 ghost use Rattle.std.specs.Prelude.{◌<◌, length};
 
 use crate::place::word_of;
+use star_dialect::Dialect;
 use star_label::files::Files;
 use star_lex::token::{Keyword, Kind, Token};
 use star_outline::blocks::{BlockNames, Blocks};
@@ -25,7 +26,7 @@ use std::alloc::{AllocError, Global};
 use std::collections::BTreeSet;
 use std::slice;
 
-/// The names of the outermost block.
+/// The names of the outermost block of the core.
 const BUILT_INS: [&str; 24] = [
     "None",
     "True",
@@ -53,6 +54,9 @@ const BUILT_INS: [&str; 24] = [
     "zip",
 ];
 
+/// The further names of the outermost block of the extended language.
+const FURTHER: [&str; 6] = ["chr", "dir", "getattr", "hasattr", "ord", "struct"];
+
 /// A file whose text parses: its tokens and its tree.
 #[derive(Clone, Copy)]
 pub(crate) struct Source<'a> {
@@ -65,6 +69,8 @@ pub(crate) struct Source<'a> {
     /// The prelude that it sees, and its tree, if that parses.
     pub prelude: Option<usize>,
     pub seen: Option<&'a Tree>,
+    /// The dialect in which it is read.
+    pub dialect: Dialect,
 }
 
 /// The findings about the names of a file.
@@ -158,6 +164,9 @@ impl<'a> Source<'a> {
             self.add_bound(tree, &mut names)?;
         }
         names.extend_from_slice(&BUILT_INS)?;
+        if self.dialect == Dialect::Extended {
+            names.extend_from_slice(&FURTHER)?;
+        }
         Ok(names)
     }
 
@@ -165,7 +174,14 @@ impl<'a> Source<'a> {
     fn first_fault_by(self, seen: Option<&Prelude<'a>>) -> Result<Option<ScopeFault>, AllocError>
         requires { self.file < length self.files.now }
     {
-        match resolve(self.alloc, self.files, self.file, self.tree, seen) {
+        match resolve(
+            self.alloc,
+            self.files,
+            self.file,
+            self.tree,
+            seen,
+            self.dialect,
+        ) {
             Ok(_) => Ok(None),
             Err(ScopeFault::Memory) => Err(AllocError),
             Err(fault) => Ok(Some(fault)),
@@ -225,7 +241,7 @@ impl<'a> Source<'a> {
     fn add_names(self, found: &mut Found<'a>) -> Result<(), AllocError> {
         let (words, blocks) = (self.words()?, self.blocks()?);
         let statements = self.tree.statements.as_slice();
-        let placed = resolve_names(self.alloc, &blocks, Some(&words), statements);
+        let placed = resolve_names(self.alloc, &blocks, Some(&words), self.dialect, statements);
         self.add_names_at(&without_memory(placed)?.spots, found)
     }
 

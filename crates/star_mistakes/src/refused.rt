@@ -18,14 +18,19 @@ const NO_CLASSES: &str = "there are no classes: use a dict";
 const ELSEWHERE: &str =
     "another host builds it in, and this one does not: write it in the prelude, or load it";
 
-const NO_STRUCTS: &str = "there are no structs: write `dict(a = 1)`, and read it as `d[\"a\"]`";
+const EXTENDED: &str = "the extended language has it: `--language extended`";
+
+const STRUCTS: &str =
+    "the extended language has it: `--language extended`; here write `dict(a = 1)`, and read it as `d[\"a\"]`";
 
 const NO_SETS: &str = "there are no sets: use a dict whose values are `True`";
 
 const NO_FLOATS: &str = "there are no floats: count in a smaller unit with ints";
 
-const NO_ATTRIBUTES: &str =
-    "values have no attributes but methods: use a dict, and `key in d` or `d.get(key)`";
+const ATTRIBUTES: &str =
+    "the extended language has it: `--language extended`; here use a dict, and `key in d` or `d.get(key)`";
+
+const NO_WRITES: &str = "nothing writes an attribute: use a dict, and `d[key] = value`";
 
 const NO_FILES: &str = "a file reads nothing but the files that it loads";
 
@@ -42,24 +47,18 @@ const OF_DIALECTS: &[(&'static str, &'static str)] = &[
     ("self", NO_CLASSES),
     ("this", NO_CLASSES),
     ("super", NO_CLASSES),
-    ("struct", NO_STRUCTS),
+    ("struct", STRUCTS),
     ("set", NO_SETS),
     ("frozenset", NO_SETS),
     ("float", NO_FLOATS),
     ("round", NO_FLOATS),
-    ("getattr", NO_ATTRIBUTES),
-    ("setattr", NO_ATTRIBUTES),
-    ("hasattr", NO_ATTRIBUTES),
-    ("dir", NO_ATTRIBUTES),
+    ("getattr", ATTRIBUTES),
+    ("setattr", NO_WRITES),
+    ("hasattr", ATTRIBUTES),
+    ("dir", EXTENDED),
     ("hash", "a dict finds its keys without it"),
-    (
-        "ord",
-        "no function tells the number of a character: look it up in a dict",
-    ),
-    (
-        "chr",
-        "no function makes a character of a number: look it up in a list",
-    ),
+    ("ord", EXTENDED),
+    ("chr", EXTENDED),
     ("json", "`--with values` shows globals as JSON"),
     ("map", COMPREHENSION),
     ("filter", COMPREHENSION),

@@ -11,8 +11,9 @@ use Rattle.star_store.specs.declared.values.Cell.{Cell}
 use Rattle.star_store.specs.declared.values.Cell.TheVariants as cell
 use Rattle.star_store.specs.declared.values.HeapCell.{HeapCell}
 use Rattle.star_store.specs.Write.{cell_at}
-use Rattle.star_unseen.specs.Veil.{AreVisible, CellIsVisible, Hides, IsVisible, PairsAreVisible}
-use Rattle.star_needs.specs.Changed.{data_by, one_range, same_at, same_cell, same_entries, same_items, same_value}
+use Rattle.star_store.specs.Fields.{Fields, names_of, same_names, values_of}
+use Rattle.star_unseen.specs.Veil.{AreVisible, CellIsVisible, FieldsAreVisible, Hides, IsVisible, PairsAreVisible}
+use Rattle.star_needs.specs.Changed.{data_by, one_range, same_at, same_cell, same_entries, same_fields, same_items, same_value}
 
 -- ---- bools
 
@@ -95,12 +96,38 @@ one_range_is r s e =
     ∙ (ap (λ z. let t : Range = record { start = s.start; stop = z; step = r.step } in t) stop
     ∙ ap (λ z. let t : Range = record { start = s.start; stop = s.stop; step = z } in t) step)
 
+-- two structs with the same names and values are one
+one_name : (ns ms : List (List ℕ)) → same_names ns ms ≡ true → ns ≡ ms
+one_name [] [] e = refl
+one_name [] (m ∷ ms) e = absurd (let no : ⊥ = cc in no)
+one_name (n ∷ ns) [] e = absurd (let no : ⊥ = cc in no)
+one_name (n ∷ ns) (m ∷ ms) e =
+    let h = both (pointwise nat_eq n m) (same_names ns ms) e in
+    ap (λ z. z ∷ ns) (one_text n m h.0) ∙ ap (λ zs. m ∷ zs) (one_name ns ms h.1)
+
+one_fields : (xs ys : Fields) → names_of xs ≡ names_of ys → values_of xs ≡ values_of ys → xs ≡ ys
+one_fields [] [] n v = refl
+one_fields [] (y ∷ ys) n v = absurd (let no : ⊥ = cc in no)
+one_fields (x ∷ xs) [] n v = absurd (let no : ⊥ = cc in no)
+one_fields ((a, b) ∷ xs) ((c, d) ∷ ys) n v =
+    let name : a ≡ c = cc in
+    let names : names_of xs ≡ names_of ys = cc in
+    let val : b ≡ d = cc in
+    let vals : values_of xs ≡ values_of ys = cc in
+    ap (λ z. (z, b) ∷ xs) name ∙ (ap (λ z. (c, z) ∷ xs) val ∙ ap (λ zs. (c, d) ∷ zs) (one_fields xs ys names vals))
+
+one_struct : (fits : Value → Bool) (xs ys : Fields) → same_fields fits xs ys ≡ true → xs ≡ ys
+one_struct fits xs ys e =
+    let h = both (same_names (names_of xs) (names_of ys)) (same_items fits (values_of xs) (values_of ys)) e in
+    one_fields xs ys (one_name (names_of xs) (names_of ys) h.0) (one_row fits (values_of xs) (values_of ys) h.1)
+
 pub one_cell : (fits : Value → Bool) (o p : Option Cell) → same_cell fits o p ≡ true → o ≡ p
 one_cell fits (Some (cell.Text t)) (Some (cell.Text u)) e = ap (λ z. Some (cell.Text z)) (one_text t u e)
 one_cell fits (Some (cell.Range r)) (Some (cell.Range s)) e = ap (λ z. Some (cell.Range z)) (one_range_is r s e)
 one_cell fits (Some (cell.Tuple xs)) (Some (cell.Tuple ys)) e = ap (λ z. Some (cell.Tuple z)) (one_row fits xs ys e)
 one_cell fits (Some (cell.List xs)) (Some (cell.List ys)) e = ap (λ z. Some (cell.List z)) (one_row fits xs ys e)
 one_cell fits (Some (cell.Dict es)) (Some (cell.Dict fs)) e = ap (λ z. Some (cell.Dict z)) (one_entries fits es fs e)
+one_cell fits (Some (cell.Struct xs)) (Some (cell.Struct ys)) e = ap (λ z. Some (cell.Struct z)) (one_struct fits xs ys e)
 one_cell fits o p e = absurd (let no : ⊥ = cc in no)
 
 -- ---- and leads to nothing but data
@@ -124,12 +151,22 @@ entries_visible hides fits h (x ∷ xs) (y ∷ ys) e =
     let k = one_entry fits x y (same_entries fits xs ys) e in
     ((h x.0 k.key_data, h x.1 k.value_data), entries_visible hides fits h xs ys k.rest)
 
+of_values : (hides : Hides) (fs : Fields) → AreVisible hides (values_of fs) → FieldsAreVisible hides fs
+of_values hides [] h = tt
+of_values hides (f ∷ fs) h = (h.0, of_values hides fs h.1)
+
+fields_visible : (hides : Hides) (fits : Value → Bool) → Implies fits (IsVisible hides) → (xs ys : Fields) → same_fields fits xs ys ≡ true → FieldsAreVisible hides xs
+fields_visible hides fits h xs ys e =
+    let k = both (same_names (names_of xs) (names_of ys)) (same_items fits (values_of xs) (values_of ys)) e in
+    of_values hides xs (row_visible hides fits h (values_of xs) (values_of ys) k.1)
+
 pub data_visible : (hides : Hides) (fits : Value → Bool) → Implies fits (IsVisible hides) → (c : Cell) (p : Option Cell) → same_cell fits (Some c) p ≡ true → CellIsVisible hides c
 data_visible hides fits h (cell.Text t) p e = tt
 data_visible hides fits h (cell.Range r) p e = tt
 data_visible hides fits h (cell.Tuple xs) (Some (cell.Tuple ys)) e = row_visible hides fits h xs ys e
 data_visible hides fits h (cell.List xs) (Some (cell.List ys)) e = row_visible hides fits h xs ys e
 data_visible hides fits h (cell.Dict xs) (Some (cell.Dict ys)) e = entries_visible hides fits h xs ys e
+data_visible hides fits h (cell.Struct xs) (Some (cell.Struct ys)) e = fields_visible hides fits h xs ys e
 data_visible hides fits h c p e = absurd (let no : ⊥ = cc in no)
 
 -- ---- more levels
@@ -159,12 +196,18 @@ more_entries f g h (x ∷ xs) (y ∷ ys) e =
     (and_both (same_value x.0 y.0) (g x.0) k.0 (h x.0 k.1))
     (and_both (same_value x.1 y.1 && g x.1) (same_entries g xs ys) (and_both (same_value x.1 y.1) (g x.1) v.0 (h x.1 v.1)) (more_entries f g h xs ys r.1))
 
+more_fields : (f g : Value → Bool) → Within f g → (xs ys : Fields) → same_fields f xs ys ≡ true → same_fields g xs ys ≡ true
+more_fields f g h xs ys e =
+    let k = both (same_names (names_of xs) (names_of ys)) (same_items f (values_of xs) (values_of ys)) e in
+    and_both (same_names (names_of xs) (names_of ys)) (same_items g (values_of xs) (values_of ys)) k.0 (more_items f g h (values_of xs) (values_of ys) k.1)
+
 more_cell : (f g : Value → Bool) → Within f g → (o p : Option Cell) → same_cell f o p ≡ true → same_cell g o p ≡ true
 more_cell f g h (Some (cell.Text t)) (Some (cell.Text u)) e = e
 more_cell f g h (Some (cell.Range r)) (Some (cell.Range s)) e = e
 more_cell f g h (Some (cell.Tuple xs)) (Some (cell.Tuple ys)) e = more_items f g h xs ys e
 more_cell f g h (Some (cell.List xs)) (Some (cell.List ys)) e = more_items f g h xs ys e
 more_cell f g h (Some (cell.Dict es)) (Some (cell.Dict fs)) e = more_entries f g h es fs e
+more_cell f g h (Some (cell.Struct xs)) (Some (cell.Struct ys)) e = more_fields f g h xs ys e
 more_cell f g h o p e = absurd (let no : ⊥ = cc in no)
 
 by_more : (home : ℕ) (f g : ℕ → Bool) → ((at : ℕ) → f at ≡ true → g at ≡ true) → (v : Value) → data_by home f v ≡ true → data_by home g v ≡ true

@@ -11,7 +11,7 @@ use Rattle.star_scope.specs.declared.loads.LoadTarget.TheVariants as lead
 use Rattle.star_scope.specs.declared.program.Prelude.{Prelude}
 use Rattle.star_scope.specs.declared.program.Program.{Program}
 use Rattle.star_scope.specs.Loads.{AllLead, LeadsTo, Read}
-use Rattle.star_scope.specs.Resolve.{AreReadIn, Resolves, prelude_names}
+use Rattle.star_scope.specs.Resolve.{AreReadIn, Outside, Resolves, prelude_names}
 use Rattle.star_tree.specs.declared.tree.Statement.{Statement}
 use Rattle.star_plan.specs.Plan.{Faulty, OfNames, OfText, Reading, Sound}
 use Rattle.star_plan.specs.Reading.{IsPrelude, IsRead, statements_in}
@@ -76,14 +76,14 @@ module _ (files others : List File) (labels : labels_of files ≡ labels_of othe
   reads_to : (n : ℕ) (ss : List Statement) (rs : List Read) → AreReadIn files n ss rs → AreReadIn others n ss rs
   reads_to n ss rs (are, leads) = (are, subst (λ l. AllLead others (package_of l) rs) (label_same files others labels n) (leads_to (package_of (label_at files n)) rs leads))
 
-  pub resolved_to : (n : ℕ) (o : Option Prelude) (ss : List Statement) (p : Program) → Resolves files n o ss (Ok p) → Resolves others n o ss (Ok p)
+  pub resolved_to : (n : ℕ) (o : Outside) (ss : List Statement) (p : Program) → Resolves files n o ss (Ok p) → Resolves others n o ss (Ok p)
   resolved_to n o ss p (rs, are, none, is) = (rs, reads_to n ss rs are, none, is)
 
-  refused_to : (n : ℕ) (o : Option Prelude) (ss : List Statement) (e : ScopeFault) → Resolves files n o ss (Err e) → Resolves others n o ss (Err e)
+  refused_to : (n : ℕ) (o : Outside) (ss : List Statement) (e : ScopeFault) → Resolves files n o ss (Err e) → Resolves others n o ss (Err e)
   refused_to n o ss e (inl memory) = inl memory
   refused_to n o ss e (inr (rs, are, first)) = inr (rs, reads_to n ss rs are, first)
 
-  pub read_to : (o : Option Prelude) (n : ℕ) (r : Reading) → text_at files n ≡ text_at others n → IsRead files o n r → IsRead others o n r
+  pub read_to : (o : Outside) (n : ℕ) (r : Reading) → text_at files n ≡ text_at others n → IsRead files o n r → IsRead others o n r
   read_to o n (Faulty (OfText e)) text (parses, other) = (subst (λ t. Parses t (Err e)) text parses, other)
   read_to o n (Faulty (OfNames e)) text (tree, parses, resolves, other) = (tree, subst (λ t. Parses t (Ok tree)) text parses, refused_to n o tree.statements e resolves, other)
   read_to o n (Sound ss loads) text (tree, parses, are, (p, resolves, is)) = (tree, subst (λ t. Parses t (Ok tree)) text parses, are, (p, resolved_to n o ss p resolves, is))

@@ -11,11 +11,11 @@ use Rattle.star_store.specs.declared.values.Value.{Value}
 use Rattle.star_tree.specs.declared.tree.Statement.{Statement}
 use Rattle.star_outline.specs.Names.{Names}
 use Rattle.star_outline.specs.Outlines.{Outline, names_in, outline}
-use Rattle.star_scope.specs.Places.{AllPlaced}
+use Rattle.star_scope.specs.Places.{AllPlaced, Outer}
 use Rattle.star_scope.specs.Uses.{uses}
 use Rattle.star_meaning.specs.Local.{Trees, outlines, setting}
 use Rattle.star_meaning.specs.Module.{Local, most_levels, run_file, start}
-use Rattle.star_meaning.specs.Places.{AllFit, FitsBlock, FitsChain, FitsFunction, IsResolved, Stands, Tables, by_places, outer_names}
+use Rattle.star_meaning.specs.Places.{AllFit, FitsBlock, FitsChain, FitsFunction, IsResolved, Stands, Tables, by_places, outer_at, outer_names}
 use Rattle.star_meaning.specs.Program.{Setting, blocks_in, blocks_of, outline_of}
 use Rattle.star_meaning.specs.Programs.{Files, load_files, tables_of}
 use Rattle.star_meaning.specs.Run.{State}
@@ -94,10 +94,12 @@ right files part whole placed is placed_so of sound n ms file ss there =
     let whole_sound : PreludeIsSound whole = λ q e. (let t = sound q (of.prelude ∙ e) in (t.0, tree_whole part whole of q t.0 t.1)) in
     let r : IsResolved (tables_of placed) (given whole n ms) file ss = tables_right files whole placed is placed_so whole_sound n ms file ss (wider part whole of file ss there) in
     let same = same_outline part whole of file ss there in
-    let outer : outer_names (given whole n ms) file whole.prelude ≡ outer_names (given part n ms) file part.prelude = ap (outer_names (given whole n ms) file) (sym of.prelude) ∙ outer_same part whole of sound n ms file part.prelude refl in
+    let names : outer_names (given whole n ms) file whole.prelude ≡ outer_names (given part n ms) file part.prelude = ap (outer_names (given whole n ms) file) (sym of.prelude) ∙ outer_same part whole of sound n ms file part.prelude refl in
+    let outer : outer_at (given whole n ms) file ≡ outer_at (given part n ms) file =
+    ap (λ o. let r : Outer = record { names = o; dialect = whole.mode.dialect } in r) names ∙ ap (λ (m : Mode). let r : Outer = record { names = outer_names (given part n ms) file part.prelude; dialect = m.dialect } in r) (sym of.mode) in
     record {
       numbers = r.numbers;
-      names = subst (λ o. AllPlaced ((tables_of placed).spots file) (blocks_of (given part n ms) file) o (uses ss)) outer (subst (λ o. AllPlaced ((tables_of placed).spots file) (blocks_in o) (outer_names (given whole n ms) file whole.prelude) (uses ss)) same r.names);
+      names = subst (λ o. AllPlaced ((tables_of placed).spots file) (blocks_of (given part n ms) file) o (uses ss)) outer (subst (λ o. AllPlaced ((tables_of placed).spots file) (blocks_in o) (outer_at (given whole n ms) file) (uses ss)) same r.names);
       blocks = λ number. r.blocks number ∙ ap (λ o. length (names_in (blocks_in o) number)) same;
     }
 

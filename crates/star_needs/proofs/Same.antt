@@ -20,7 +20,8 @@ use Rattle.star_meaning.specs.Arguments.{given, name_key}
 use Rattle.star_meaning.specs.BuiltIns.{call_built_in}
 use Rattle.star_meaning.specs.Expressions.{fresh_entries}
 use Rattle.star_meaning.specs.ListMethods.{extend}
-use Rattle.star_meaning.specs.Methods.{attribute, call_method}
+use Rattle.star_meaning.specs.Attributes.{attribute}
+use Rattle.star_meaning.specs.Methods.{call_method}
 use Rattle.star_meaning.specs.Operators.{comparison, operate, prefix}
 use Rattle.star_meaning.specs.Pairs.{dict_of, pairs_of, put_pairs, update_with}
 use Rattle.star_meaning.specs.Statements.{augment_content, augmented}

@@ -40,7 +40,7 @@ use Rattle.star_meaning.proofs.Keeps.{kept_by}
 use Rattle.star_meaning.proofs.KeepsValues.{respects-is_true, keeps-new_dict, respects-new_list, respects-new_text, respects-new_tuple, respects-take_item}
 use Rattle.star_meaning.proofs.KeepsOperators.{respects-comparison, keeps-operate, respects-prefix}
 use Rattle.star_meaning.proofs.KeepsSubscript.{respects-index, respects-set_index, respects-slice}
-use Rattle.star_meaning.proofs.KeepsMethods.{respects-attribute}
+use Rattle.star_meaning.proofs.KeepsAttributes.{respects-attribute}
 use Rattle.star_meaning.proofs.KeepsEntries.{keeps-augmented, keeps-fresh_entries}
 use Rattle.star_meaning.proofs.AgreeNodes.{loaded_each}
 use Rattle.star_needs.proofs.Outlines.{with_outlines}

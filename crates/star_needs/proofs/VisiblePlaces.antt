@@ -10,7 +10,7 @@ use Rattle.star_store.specs.declared.values.HeapCell.{HeapCell}
 use Rattle.star_store.specs.Store.{Published, Shelf}
 use Rattle.star_meaning.specs.Module.{most_levels}
 use Rattle.star_plan.proofs.Rows.{flat_is}
-use Rattle.star_unseen.specs.Veil.{AreVisible, CellIsVisible, CellsAreVisible, Every, Hides, IsVisible, Maybe, PairsAreVisible, VisibleIfThere}
+use Rattle.star_unseen.specs.Veil.{AreVisible, CellIsVisible, FieldsAreVisible, CellsAreVisible, Every, Hides, IsVisible, Maybe, PairsAreVisible, VisibleIfThere}
 use Rattle.star_needs.specs.Changed.{same_at}
 
 -- a place of a home is hidden unless both shelves have a module there, and the home is in or the places have the same
@@ -99,6 +99,10 @@ slots_more : (a b : Hides) → Reveals a b → (os : List (Option Value)) → Ev
 slots_more a b r [] h = tt
 slots_more a b r (o ∷ os) h = (there_more a b r o h.0, slots_more a b r os h.1)
 
+fields_more : (a b : Hides) → Reveals a b → (fs : List (List ℕ × Value)) → FieldsAreVisible a fs → FieldsAreVisible b fs
+fields_more a b r [] h = tt
+fields_more a b r (f ∷ fs) h = (value_more a b r f.1 h.0, fields_more a b r fs h.1)
+
 pub cell_more : (a b : Hides) → Reveals a b → (c : Cell) → CellIsVisible a c → CellIsVisible b c
 cell_more a b r (cell.Text t) h = tt
 cell_more a b r (cell.Range x) h = tt
@@ -108,6 +112,7 @@ cell_more a b r (cell.Dict es) h = pairs_more a b r es h
 cell_more a b r (cell.Func f) h = (values_more a b r f.defaults h.0, value_more a b r f.frame h.1, r.file f.file h.2)
 cell_more a b r (cell.Frame f) h = (there_more a b r f.parent h.0, slots_more a b r f.slots h.1, r.file f.file h.2)
 cell_more a b r (cell.Bound m v) h = value_more a b r v h
+cell_more a b r (cell.Struct fs) h = fields_more a b r fs h
 
 pub cells_more : (a b : Hides) → Reveals a b → (es : List HeapCell) → CellsAreVisible a es → CellsAreVisible b es
 cells_more a b r [] h = tt

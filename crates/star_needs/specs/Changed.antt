@@ -13,6 +13,7 @@ use Rattle.star_store.specs.declared.values.Value.TheVariants as value
 use Rattle.star_store.specs.declared.values.Cell.{Cell}
 use Rattle.star_store.specs.declared.values.Cell.TheVariants as cell
 use Rattle.star_store.specs.declared.values.HeapCell.{HeapCell}
+use Rattle.star_store.specs.Fields.{Fields, names_of, same_names, values_of}
 use Rattle.star_store.specs.Store.{Published, Shelf, global_of}
 use Rattle.star_store.specs.Write.{cell_at}
 use Rattle.star_tree.specs.declared.tree.Form.TheOpen as form
@@ -50,6 +51,10 @@ same_entries fits (x ∷ xs) (y ∷ ys) =
     (same_value x.0 y.0 && fits x.0) && ((same_value x.1 y.1 && fits x.1) && same_entries fits xs ys)
 same_entries fits _ _ = false
 
+-- .. and two structs
+abbrev pub same_fields : (Value → Bool) → Fields → Fields → Bool
+same_fields fits s t = same_names (names_of s) (names_of t) && same_items fits (values_of s) (values_of t)
+
 abbrev pub one_range : Range → Range → Bool
 one_range r s = int_eq r.start s.start && (int_eq r.stop s.stop && int_eq r.step s.step)
 
@@ -60,6 +65,7 @@ same_cell fits (Some (cell.Range r)) (Some (cell.Range s)) = one_range r s
 same_cell fits (Some (cell.Tuple xs)) (Some (cell.Tuple ys)) = same_items fits xs ys
 same_cell fits (Some (cell.List xs)) (Some (cell.List ys)) = same_items fits xs ys
 same_cell fits (Some (cell.Dict es)) (Some (cell.Dict fs)) = same_entries fits es fs
+same_cell fits (Some (cell.Struct s)) (Some (cell.Struct t)) = same_fields fits s t
 same_cell fits _ _ = false
 
 -- a value is data, by which cells of this home are: an atom, or one of these cells

@@ -3,6 +3,7 @@ use Rattle.std.specs.Prelude.{◌≡◌, ℕ, Bool, true, List, map, Option, Som
 use Rattle.star_dialect.specs.declared.Mode.{Mode}
 use Rattle.star_label.specs.Files.{File, text_at}
 use Rattle.star_scope.specs.declared.program.Prelude.{Prelude}
+use Rattle.star_scope.specs.Resolve.{outside}
 use Rattle.star_plan.specs.Plan.{Plan, Reading, loads_in}
 use Rattle.star_plan.specs.Reached.{IsReached}
 use Rattle.star_plan.specs.Reading.{IsPlanOf, IsPrelude, IsRead}
@@ -24,16 +25,16 @@ IsEndUnder files prelude mode n e = InEachPlan files prelude mode n (λ plan. Is
 abbrev pub IsBodyUnder : List File → Option ℕ → Mode → ℕ → Body → Type 0
 IsBodyUnder files prelude mode n b = InEachPlan files prelude mode n (λ plan. IsBody plan n b)
 
--- the file n of these files, with this prelude, loads these files, in order: each reading of it says so
-abbrev pub AreLoadsUnder : List File → Option ℕ → ℕ → List ℕ → Type 0
-AreLoadsUnder files prelude n loads =
-    (p : Option Prelude) (r : Reading) → IsPrelude files prelude p → IsRead files p n r
+-- the file n of these files, with this prelude and mode, loads these files, in order: each reading of it says so
+abbrev pub AreLoadsUnder : List File → Option ℕ → Mode → ℕ → List ℕ → Type 0
+AreLoadsUnder files prelude mode n loads =
+    (p : Option Prelude) (r : Reading) → IsPrelude files prelude p → IsRead files (outside p mode.dialect) n r
     → map (λ l. l.file) (loads_in (Some r)) ≡ loads
 
 -- each of some files has all that it loads among them
-abbrev pub IsClosed : List File → Option ℕ → (ℕ → Bool) → Type 0
-IsClosed files prelude is_in =
-    (n : ℕ) → is_in n ≡ true → (loads : List ℕ) × AreLoadsUnder files prelude n loads
+abbrev pub IsClosed : List File → Option ℕ → Mode → (ℕ → Bool) → Type 0
+IsClosed files prelude mode is_in =
+    (n : ℕ) → is_in n ≡ true → (loads : List ℕ) × AreLoadsUnder files prelude mode n loads
     × ((m : ℕ) → Contains loads m → is_in m ≡ true)
 
 -- two rows of files have the same labels, in order, and so the same numbers. Some of them, and the prelude if there is

@@ -92,6 +92,7 @@ check_after w c line false s h = tt
 cell_there : (f : Value → Spend (Unit {0})) (o : Option Cell) (n left : ℕ) (u : Unit {0}) → keys.check_cell f o n ≡ Enough u left → LeadsToFixed o
 cell_there f (Some (cell.Text t)) n left u h = tt
 cell_there f (Some (cell.Tuple xs)) n left u h = tt
+cell_there f (Some (cell.Struct fs)) n left u h = tt
 cell_there f (Some (cell.List xs)) n left u h = absurd (let no : ⊥ = cc in no)
 cell_there f (Some (cell.Dict xs)) n left u h = absurd (let no : ⊥ = cc in no)
 cell_there f (Some (cell.Range xs)) n left u h = absurd (let no : ⊥ = cc in no)

@@ -67,6 +67,7 @@ once look (e ∷ es) d (suc i) (suc j) x y t a b p q = ap suc (once look es d.2 
 key_there : (f : Value → Bool) (o : Option Cell) → key_cell f o ≡ true → LeadsToFixed o
 key_there f (Some (cell.Text t)) h = tt
 key_there f (Some (cell.Tuple xs)) h = tt
+key_there f (Some (cell.Struct fs)) h = tt
 key_there f (Some (cell.List xs)) h = absurd (let no : ⊥ = cc in no)
 key_there f (Some (cell.Dict xs)) h = absurd (let no : ⊥ = cc in no)
 key_there f (Some (cell.Range xs)) h = absurd (let no : ⊥ = cc in no)

@@ -20,7 +20,7 @@ use Rattle.star_once.proofs.Dicts.{fresh_entries_after}
 use Rattle.star_once.proofs.Keeps.{AllKeep, Keeps, VariablesKeep, keeps, keeps_each, keeps_fail, keeps_pay, keeps_then, once_by}
 use Rattle.star_once.proofs.KeepsComprehensions.{keeps-dict_comprehension, keeps-list_comprehension}
 use Rattle.star_once.proofs.KeepsExpressions.{keeps-entry_of, keeps-maybe, keeps-new_function}
-use Rattle.star_meaning.proofs.KeepsMethods.{respects-attribute}
+use Rattle.star_meaning.proofs.KeepsAttributes.{respects-attribute}
 use Rattle.star_once.proofs.KeepsModule.{keeps-global_text}
 use Rattle.star_meaning.proofs.KeepsOperators.{respects-comparison, respects-prefix}
 use Rattle.star_once.proofs.KeepsOperators.{keeps-operate}

@@ -16,11 +16,12 @@ use Rattle.star_meaning.proofs.Quiet.{same_cells}
 use Rattle.star_once.specs.Keys.{Differ, IsFixed, KeysDiffer}
 use Rattle.star_once.proofs.Keys.{Stay, differ_stays}
 
--- ---- strings and tuples stay where cells keep their kind
+-- ---- strings, tuples and structs stay where cells keep their kind
 
 kind_fixed : (c d : Cell) → IsFixed c → KeepsKind c d → d ≡ c
 kind_fixed (cell.Text t) d f k = k
 kind_fixed (cell.Tuple xs) d f k = k
+kind_fixed (cell.Struct fs) d f k = k
 kind_fixed (cell.List xs) d f k = absurd f
 kind_fixed (cell.Dict xs) d f k = absurd f
 kind_fixed (cell.Range xs) d f k = absurd f

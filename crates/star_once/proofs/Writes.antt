@@ -72,6 +72,7 @@ entries_differ look c (Some (cell.Range t)) x es good d h = absurd (let no : ⊥
 entries_differ look c (Some (cell.Func t)) x es good d h = absurd (let no : ⊥ = cc in no)
 entries_differ look c (Some (cell.Frame t)) x es good d h = absurd (let no : ⊥ = cc in no)
 entries_differ look c (Some (cell.Bound m t)) x es good d h = absurd (let no : ⊥ = cc in no)
+entries_differ look c (Some (cell.Struct t)) x es good d h = absurd (let no : ⊥ = cc in no)
 entries_differ look c None x es good d h = absurd (let no : ⊥ = cc in no)
 
 good_key : (b1 b2 b3 b4 : Bool) (u : Unit {0}) → (if b1 then (if b2 then (if b3 then (if b4 then Ok tt else Err refused.BadType) else Err refused.Iterating) else Err refused.Frozen) else Err refused.BadType) ≡ Ok u → b4 ≡ true

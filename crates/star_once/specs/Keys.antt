@@ -8,17 +8,18 @@ use Rattle.star_data.specs.Data.{cell_of, text_in}
 use Rattle.star_meaning.specs.Run.{State}
 use Rattle.star_meaning.specs.Program.{Setting, seen}
 
--- a cell that nothing changes, and that may be a key: a string or a tuple
+-- a cell that nothing changes, and that may be a key: a string, a tuple or a struct
 abbrev pub IsFixed : Cell → Type 0
 IsFixed (cell.Text t) = Unit {0}
 IsFixed (cell.Tuple xs) = Unit {0}
+IsFixed (cell.Struct fs) = Unit {0}
 IsFixed _ = ⊥
 
 abbrev pub LeadsToFixed : Option Cell → Type 0
 LeadsToFixed (Some c) = IsFixed c
 LeadsToFixed None = ⊥
 
--- a value that leads to no cell by itself, or to a string or a tuple
+-- a value that leads to no cell by itself, or to a string, a tuple or a struct
 abbrev pub IsThere : (Value → Option Cell) → Value → Type 0
 IsThere look (value.Ref h a) = LeadsToFixed (look (value.Ref h a))
 IsThere look _ = Unit {0}

@@ -18,7 +18,7 @@
 //!   see it. It keeps the notes of two runs apart.
 //!
 //! Begin at `module.rt`, then `told.rt`. `told::headline` states the headline of `star_cache` for this product. See
-//! `docs/OUTCOMES.md` and `docs/LOADING.md`.
+//! `docs/LOADING.md`.
 #![tactic(auto)]
 
 pub mod good_end;

@@ -21,7 +21,7 @@ use Rattle.star_scope.specs.declared.program.Prelude.{Prelude}
 use Rattle.star_scope.specs.declared.program.Program.{Program}
 use Rattle.star_scope.specs.Faults.{first}
 use Rattle.star_scope.specs.Loads.{AllLead, LeadsTo, Read, load_of, prelude_loads}
-use Rattle.star_scope.specs.Resolve.{AreReadIn, Resolves, faults_in, prelude_names, seen_by}
+use Rattle.star_scope.specs.Resolve.{AreReadIn, Outside, Resolves, faults_in, outside, prelude_names, seen_by}
 use Rattle.star_plan.proofs.Rows.{same_rows}
 use Rattle.star_plan.specs.Plan.{Plan, Reading, OfText, OfNames, Sound, Faulty, loaded, loads_in, read_of}
 use Rattle.star_plan.specs.Reached.{IsReached, root, load}
@@ -53,19 +53,19 @@ same_reads files here ordered (r ∷ rs) (q ∷ qs) e a b =
 one_row : (files : List File) (n : ℕ) (ss : List Statement) → IsOrdered files → (rs qs : List Read) → AreReadIn files n ss rs → AreReadIn files n ss qs → rs ≡ qs
 one_row files n ss ordered rs qs a b = same_reads files (package_of (label_at files n)) ordered rs qs (a.0 ∙ sym b.0) a.1 b.1
 
-one_loads : (files : List File) (n : ℕ) (o : Option Prelude) (ss : List Statement) → IsOrdered files → (p q : Program) → Resolves files n o ss (Ok p) → Resolves files n o ss (Ok q) → p.loads.items ≡ q.loads.items
+one_loads : (files : List File) (n : ℕ) (o : Outside) (ss : List Statement) → IsOrdered files → (p q : Program) → Resolves files n o ss (Ok p) → Resolves files n o ss (Ok q) → p.loads.items ≡ q.loads.items
 one_loads files n o ss ordered p q (rs, a, none, is) (qs, b, nothing, also) =
     let same : rs ≡ qs = one_row files n ss ordered rs qs a b in
-    is.loads ∙ (ap (λ x. prelude_loads (option_map (λ z. z.file) (seen_by n o)) ++ flat_map load_of x) same ∙ sym also.loads)
+    is.loads ∙ (ap (λ x. prelude_loads (option_map (λ z. z.file) (seen_by n o.prelude)) ++ flat_map load_of x) same ∙ sym also.loads)
 
-no_clash : (files : List File) (n : ℕ) (o : Option Prelude) (ss : List Statement) → IsOrdered files → (p : Program) (e : ScopeFault) → Resolves files n o ss (Ok p) → Resolves files n o ss (Err e) → e ≢ fault.Memory → ⊥
+no_clash : (files : List File) (n : ℕ) (o : Outside) (ss : List Statement) → IsOrdered files → (p : Program) (e : ScopeFault) → Resolves files n o ss (Ok p) → Resolves files n o ss (Err e) → e ≢ fault.Memory → ⊥
 no_clash files n o ss ordered p e a (inl memory) other = other memory
 no_clash files n o ss ordered p e (rs, a, none, is) (inr (qs, b, (r, some, at))) other =
     let same : rs ≡ qs = one_row files n ss ordered rs qs a b in
     let both : None ≡ Some r = sym none ∙ (ap (λ x. first (faults_in n o ss x)) same ∙ some) in
     let no : ⊥ = cc in no
 
-one_fault : (files : List File) (n : ℕ) (o : Option Prelude) (ss : List Statement) → IsOrdered files → (e f : ScopeFault) → Resolves files n o ss (Err e) → Resolves files n o ss (Err f) → e ≢ fault.Memory → f ≢ fault.Memory → e ≡ f
+one_fault : (files : List File) (n : ℕ) (o : Outside) (ss : List Statement) → IsOrdered files → (e f : ScopeFault) → Resolves files n o ss (Err e) → Resolves files n o ss (Err f) → e ≢ fault.Memory → f ≢ fault.Memory → e ≡ f
 one_fault files n o ss ordered e f (inl memory) b x y = absurd (x memory)
 one_fault files n o ss ordered e f (inr a) (inl memory) x y = absurd (y memory)
 one_fault files n o ss ordered e f (inr (rs, a, (r, some, at))) (inr (qs, b, (q, also, is))) x y =
@@ -80,7 +80,7 @@ one_tree text t u a b = let same : Ok t ≡ Ok u = one_answer text (Ok t) (Ok u)
 no_tree : (text : List ℕ) (t : Tree) (e : SyntaxFault) → Parses text (Ok t) → Parses text (Err e) → e ≢ syntax_fault.Memory → ⊥
 no_tree text t e a b other = let same : Ok t ≡ Err e = one_answer text (Ok t) (Err e) (λ h. let no : ⊥ = cc in no) (λ h. other (let is : e ≡ syntax_fault.Memory = cc in is)) a b in let no : ⊥ = cc in no
 
-pub one-reading : (files : List File) (o : Option Prelude) (n : ℕ) → IsOrdered files → (a b : Reading) → IsRead files o n a → IsRead files o n b → a ≡ b
+pub one-reading : (files : List File) (o : Outside) (n : ℕ) → IsOrdered files → (a b : Reading) → IsRead files o n a → IsRead files o n b → a ≡ b
 one-reading files o n ordered (Faulty (OfText e)) (Faulty (OfText f)) x y =
     let same : Err e ≡ Err f = one_answer (text_at files n) (Err e) (Err f) (λ h. x.1 (let is : e ≡ syntax_fault.Memory = cc in is)) (λ h. y.1 (let is : f ≡ syntax_fault.Memory = cc in is)) x.0 y.0 in
     let faults : e ≡ f = cc in
@@ -110,9 +110,10 @@ one-prelude files (Some n) a b (r, parses, other, is) (t, also, another, at) =
     let same : r ≡ t = one_answer (text_at files n) r t other another parses also in
     is ∙ (ap (λ z. let q : Prelude = record { file = n; names = prelude_names (statements_in z) } in Some q) same ∙ sym at)
 
-module _ (files : List File) (ordered : IsOrdered files) (p q : Plan) (a : IsPlanOf files p) (b : IsPlanOf files q) (roots : p.roots ≡ q.roots) (preludes : a.prelude ≡ b.prelude) where
+module _ (files : List File) (ordered : IsOrdered files) (p q : Plan) (a : IsPlanOf files p) (b : IsPlanOf files q) (roots : p.roots ≡ q.roots) (preludes : a.prelude ≡ b.prelude) (modes : p.mode ≡ q.mode) where
   same_read : (n : ℕ) (r s : Reading) → read_of p n ≡ Some r → read_of q n ≡ Some s → r ≡ s
-  same_read n r s x y = one-reading files b.prelude n ordered r s (subst (λ o. IsRead files o n r) preludes (a.right n r x)) (b.right n s y)
+  same_read n r s x y = one-reading files (outside b.prelude q.mode.dialect) n ordered r s
+      (subst (λ m. IsRead files (outside b.prelude m.dialect) n r) modes (subst (λ o. IsRead files (outside o p.mode.dialect) n r) preludes (a.right n r x))) (b.right n s y)
 
   reached_too : (n : ℕ) → IsReached p n → IsReached q n
   reached_too n (root h) = root (subst (λ rs. Contains rs n) roots h)
@@ -132,7 +133,7 @@ module _ (files : List File) (ordered : IsOrdered files) (p q : Plan) (a : IsPla
 pub one-plan : (files : List File) → IsOrdered files → (p q : Plan) → IsPlanOf files p → IsPlanOf files q → p.roots ≡ q.roots → p.prelude ≡ q.prelude → p.mode ≡ q.mode → p ≡ q
 one-plan files ordered p q a b roots prelude mode =
     let preludes : a.prelude ≡ b.prelude = one-prelude files q.prelude a.prelude b.prelude (subst (λ o. IsPrelude files o a.prelude) prelude a.prelude_is) b.prelude_is in
-    let rows : p.reads ≡ q.reads = same_rows p.reads q.reads (a.size ∙ sym b.size) (read_too files ordered p q a b roots preludes) (read_too files ordered q p b a (sym roots) (sym preludes)) in
+    let rows : p.reads ≡ q.reads = same_rows p.reads q.reads (a.size ∙ sym b.size) (read_too files ordered p q a b roots preludes mode) (read_too files ordered q p b a (sym roots) (sym preludes) (sym mode)) in
     ap (λ z. let r : Plan = record { roots = z; prelude = p.prelude; mode = p.mode; reads = p.reads } in r) roots
     ∙ (ap (λ z. let r : Plan = record { roots = q.roots; prelude = z; mode = p.mode; reads = p.reads } in r) prelude
     ∙ (ap (λ z. let r : Plan = record { roots = q.roots; prelude = q.prelude; mode = z; reads = p.reads } in r) mode

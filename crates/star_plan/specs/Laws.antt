@@ -2,6 +2,7 @@
 use Rattle.std.specs.Prelude.{◌≡◌, ◌≤◌, ◌↔◌, ◌⊎◌, ◌∷◌, ◌++◌, ℕ, Bool, true, List, [], length, Option, Some, Contains}
 use Rattle.star_label.specs.Files.{File, IsOrdered}
 use Rattle.star_scope.specs.declared.program.Prelude.{Prelude}
+use Rattle.star_scope.specs.Resolve.{outside}
 use Rattle.star_outline.specs.Definitions.{AllDiffer}
 use Rattle.star_cache.specs.Walk.{IsOnCycle, LeadsTo}
 use Rattle.star_cache.specs.State.{Loads}
@@ -110,7 +111,8 @@ abbrev pub ReadingsMakePlans : Type 0
 ReadingsMakePlans =
     (files : List File) (plan : Plan) (prelude : Option Prelude) → IsPrelude files plan.prelude prelude
     → length plan.reads ≡ length files
-    → ((n : ℕ) (r : Reading) → read_of plan n ≡ Some r → IsRead files prelude n r × IsReached plan n)
+    → ((n : ℕ) (r : Reading) → read_of plan n ≡ Some r → IsRead files (outside prelude plan.mode.dialect) n r
+    × IsReached plan n)
     → ((n : ℕ) → Contains plan.roots n → (r : Reading) × (read_of plan n ≡ Some r))
     → ((n m : ℕ) (r : Reading) → read_of plan n ≡ Some r → Loads (loaded plan) n m → (q : Reading)
     × (read_of plan m ≡ Some q))
@@ -213,7 +215,7 @@ PlansAreReady = (files : List File) (plan : Plan) (placed : Files) → IsPlanOf 
     → (n : ℕ) (ss : List Statement) (ms : List Local) → tree_in (read_of plan n) ≡ Some ss
     → AreGood plan (loaded plan n) ms
     → Stands (trees_of placed) n ss
-    × ArePrograms placed (given plan n ms).prelude
+    × ArePrograms placed (given plan n ms).prelude plan.mode.dialect
     × AllFit (trees_of placed) (given plan n ms) (start (given plan n ms) plan.mode.steps)
     × IsOutcome plan n (Ran (local (given plan n ms) plan.mode.steps ss))
 

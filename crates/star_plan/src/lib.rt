@@ -1,5 +1,5 @@
 //! The meaning of many files together: which files are loaded, how each ends, and the report. Definitions and laws, no
-//! code (`docs/OUTCOMES.md`).
+//! code (`docs/LOADING.md`).
 //!
 //! A plan is the roots, the prelude, the mode, and the result of reading each file. In reading order:
 //!

@@ -10,7 +10,7 @@ use Rattle.star_scope.specs.declared.loads.Load.{Load}
 use Rattle.star_scope.specs.declared.loads.LoadTarget.TheVariants as lead
 use Rattle.star_scope.specs.declared.program.Prelude.{Prelude}
 use Rattle.star_scope.specs.Loads.{AllLead, LeadsTo, Read, Written, load_of, prelude_loads, written}
-use Rattle.star_scope.specs.Resolve.{seen_by}
+use Rattle.star_scope.specs.Resolve.{outside, seen_by}
 use Rattle.std.specs.Bool.{nat_eq}
 use Rattle.std.specs.Prelude.{Bool, true, false, if◌then◌else◌}
 use Rattle.star_plan.specs.Plan.{Faulty, Plan, Reading, Sound, loads_in}
@@ -71,7 +71,7 @@ module _ (held : Held) (files : List File) (plan : Plan) (all : AreAllFiles held
   Reached n = IsReachedOf held (words_of files plan) (label_at files n)
 
   -- a load leads to the prelude or to a file that a load statement names
-  onward : (n m : ℕ) (r : Reading) → n < length files → IsRead files is.prelude n r → Contains (map file (loads_in (Some r))) m → Reached n → Reached m
+  onward : (n m : ℕ) (r : Reading) → n < length files → IsRead files (outside is.prelude plan.mode.dialect) n r → Contains (map file (loads_in (Some r))) m → Reached n → Reached m
   onward n m (Faulty f) low right c so = absurd (to_in [] m c)
   onward n m (Sound ss loads) low right c so =
       let resolved = right.3.1 in

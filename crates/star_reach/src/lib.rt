@@ -5,7 +5,7 @@
 //! that it reaches has a static fault, the two reach the same files.
 //!
 //! Begin at `law.rt`. The crate is apart because it needs both `star_plan` and `star_repo`, and neither needs the
-//! other. See `docs/FOLDERS.md`.
+//! other. See `docs/USING.md`.
 #![tactic(auto)]
 
 mod law;

@@ -12,6 +12,7 @@ use Rattle.star_cache.specs.State.{Loads}
 use Rattle.star_label.specs.Files.{File}
 use Rattle.star_scope.specs.declared.loads.Load.{Load}
 use Rattle.star_scope.specs.declared.program.Prelude.{Prelude}
+use Rattle.star_scope.specs.Resolve.{Outside}
 use Rattle.star_plan.specs.Plan.{Plan, loaded, loads_in, loads_of}
 use Rattle.star_plan.specs.Reached.{IsReached, root, load}
 use Rattle.star_reading.specs.declared.reading.Read.{Read}
@@ -133,11 +134,11 @@ all_nothing : {X : Type 0} (P : X → Type 0) (xs : List X) → xs ≡ [] → Al
 all_nothing P xs e k d lt = absurd (let l : length xs ≡ 0 = ap length e in let no : ⊥ = omega (arith, l, lt) in no)
 
 -- the roots are found, and nothing is read
-pub found_roots : (files : List File) (prelude : Option Prelude) (roots : List ℕ) (row : Row) (before marks : List Bool) (none todo : List ℕ)
+pub found_roots : (files : List File) (outside : Outside) (roots : List ℕ) (row : Row) (before marks : List Bool) (none todo : List ℕ)
     → All (λ o. o ≡ None) row → length row ≡ length files → before ≡ replicate (length files) false → none ≡ [] → Within files roots
-    → Grew roots before none marks todo → All (λ n. n < length before → IsMarked marks n) roots → AreFound files prelude roots row marks todo
-found_roots files prelude roots row before marks none todo empty size clear start within grew there = record {
-  right = none_read files prelude row empty;
+    → Grew roots before none marks todo → All (λ n. n < length before → IsMarked marks n) roots → AreFound files outside roots row marks todo
+found_roots files outside roots row before marks none todo empty size clear start within grew there = record {
+  right = none_read files outside row empty;
   sized = size;
   marked = grew.size ∙ long;
   starts = λ k d lt. there k d lt (let w = within k d lt in omega (arith, w, long));
@@ -155,8 +156,8 @@ found_roots files prelude roots row before marks none todo empty size clear star
     new k h = by_cases (grew.fresh k h) (λ old. absurd (none_marked (length files) k (subst (λ m. IsMarked m k) clear old))) (λ x. x)
 
 -- a number that waits is the number of a file
-pub waits_within : (files : List File) (prelude : Option Prelude) (roots : List ℕ) (row : Row) (marks : List Bool) (todo rest : List ℕ) (n : ℕ) → AreFound files prelude roots row marks todo → todo ≡ rest ++ n ∷ [] → n < length files
-waits_within files prelude roots row marks todo rest n f e =
+pub waits_within : (files : List File) (outside : Outside) (roots : List ℕ) (row : Row) (marks : List Bool) (todo rest : List ℕ) (n : ℕ) → AreFound files outside roots row marks todo → todo ≡ rest ++ n ∷ [] → n < length files
+waits_within files outside roots row marks todo rest n f e =
     let m = marked_within marks n (all_last (IsMarked marks) rest n (subst (All (IsMarked marks)) e f.waits)) in
     let a = f.marked in
     omega (arith, m, a)
@@ -174,8 +175,8 @@ reached_grows p q same to m (load {n = n} r l) = load (reached_grows p q same to
 pub reached_in : (roots : List ℕ) (row : Row) (plan : Plan) → roots ≡ plan.roots → ((n : ℕ) → loads_of plan n ≡ loads_at row n) → (n : ℕ) → IsReachedBy roots row n → IsReached plan n
 reached_in roots row plan same loads n h = reached_grows (plan_by roots row) plan same (λ a b l. subst (λ ls. Contains (map (λ x. x.file) ls) b) (loads_are (plan_by roots row) row a refl ∙ sym (loads a)) l) n h
 
-module _ (files : List File) (prelude : Option Prelude) (roots : List ℕ) (row : Row) (marks : List Bool) (todo : List ℕ) (n : ℕ) (r : Read) (after : List Bool) (waiting : List ℕ)
-    (f : AreFound files prelude roots row marks (todo ++ n ∷ [])) (fits : (p : Prelude) → prelude ≡ Some p → p.file < length files) (unread : read_at row n ≡ None) (is : IsReadAs files prelude n r)
+module _ (files : List File) (outside : Outside) (roots : List ℕ) (row : Row) (marks : List Bool) (todo : List ℕ) (n : ℕ) (r : Read) (after : List Bool) (waiting : List ℕ)
+    (f : AreFound files outside roots row marks (todo ++ n ∷ [])) (fits : (p : Prelude) → outside.prelude ≡ Some p → p.file < length files) (unread : read_at row n ≡ None) (is : IsReadAs files outside n r)
     (grew : Grew (map (λ (l : Load). l.file) (loads_read r)) marks todo after waiting) (there : All (λ (l : Load). l.file < length marks → IsMarked after l.file) (loads_read r)) where
   abbrev now : Row
   now = slice_set row n (Some r)
@@ -230,12 +231,12 @@ module _ (files : List File) (prelude : Option Prelude) (roots : List ℕ) (row 
   by_it k c = load (still n (f.reached n at_n)) (subst (λ ls. Contains (map (λ (x : Load). x.file) ls) k) (sym (loads_now n ∙ loads_here)) c)
 
   all_there : All (λ (l : Load). IsMarked after l.file) (loads_read r)
-  all_there k d lt = there k d lt (let w = loads_within files prelude n r fits is k d lt in let a = f.marked in omega (arith, w, a))
+  all_there k d lt = there k d lt (let w = loads_within files outside n r fits is k d lt in let a = f.marked in omega (arith, w, a))
 
   -- a file that waits was read, and its loads were found
-  pub found_next : AreFound files prelude roots now after waiting
+  pub found_next : AreFound files outside roots now after waiting
   found_next = record {
-    right = set_read files prelude row n r inside is f.right;
+    right = set_read files outside row n r inside is f.right;
     sized = length-set row n (Some r) ∙ f.sized;
     marked = grew.size ∙ f.marked;
     starts = λ k d lt. grew.stay (get_or roots k d) (f.starts k d lt);
@@ -255,8 +256,8 @@ module _ (files : List File) (prelude : Option Prelude) (roots : List ℕ) (row 
   }
 
 -- no file waits any more
-pub all_found : (files : List File) (prelude : Option Prelude) (roots : List ℕ) (row : Row) (marks : List Bool) (todo : List ℕ) → todo ≡ [] → AreFound files prelude roots row marks todo → IsRowOf files prelude roots row
-all_found files prelude roots row marks todo nothing f = record {
+pub all_found : (files : List File) (outside : Outside) (roots : List ℕ) (row : Row) (marks : List Bool) (todo : List ℕ) → todo ≡ [] → AreFound files outside roots row marks todo → IsRowOf files outside roots row
+all_found files outside roots row marks todo nothing f = record {
   right = f.right;
   sized = f.sized;
   closed = record {

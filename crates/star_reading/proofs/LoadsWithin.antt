@@ -11,7 +11,7 @@ use Rattle.star_scope.specs.declared.loads.LoadTarget.TheVariants as lead
 use Rattle.star_scope.specs.declared.loads.Load.{Load}
 use Rattle.star_scope.specs.declared.program.Prelude.{Prelude}
 use Rattle.star_scope.specs.Loads.{AllLead, LeadsTo, Read as Led, load_at, load_of, prelude_loads}
-use Rattle.star_scope.specs.Resolve.{seen_by}
+use Rattle.star_scope.specs.Resolve.{Outside, seen_by}
 use Rattle.star_reading.specs.declared.reading.Read.{Read}
 use Rattle.star_reading.specs.declared.reading.Read.TheVariants as read
 use Rattle.star_reading.specs.Readings.{IsReadAs, loads_read}
@@ -44,9 +44,9 @@ prelude_within files n None fits = nothing (Fits files)
 prelude_within files n (Some p) fits = seen_within files (nat_eq p.file n) p (fits p refl)
 
 -- the loads of a read file are files
-pub loads_within : (files : List File) (prelude : Option Prelude) (n : ℕ) (r : Read) → ((p : Prelude) → prelude ≡ Some p → p.file < length files) → IsReadAs files prelude n r → All (λ (l : Load). l.file < length files) (loads_read r)
-loads_within files prelude n (read.Fault f) fits is = nothing (Fits files)
-loads_within files prelude n (read.Program p) fits is =
+pub loads_within : (files : List File) (outside : Outside) (n : ℕ) (r : Read) → ((p : Prelude) → outside.prelude ≡ Some p → p.file < length files) → IsReadAs files outside n r → All (λ (l : Load). l.file < length files) (loads_read r)
+loads_within files outside n (read.Fault f) fits is = nothing (Fits files)
+loads_within files outside n (read.Program p) fits is =
     let resolved = is.3 in
     subst (λ ls. All (Fits files) ls) (sym resolved.3.loads)
-    (All-append (Fits files) (prelude_loads (option_map (λ (q : Prelude). q.file) (seen_by n prelude))) (flat_map load_of resolved.0) (prelude_within files n prelude fits) (all_within files _ resolved.0 resolved.1.1))
+    (All-append (Fits files) (prelude_loads (option_map (λ (q : Prelude). q.file) (seen_by n outside.prelude))) (flat_map load_of resolved.0) (prelude_within files n outside.prelude fits) (all_within files _ resolved.0 resolved.1.1))

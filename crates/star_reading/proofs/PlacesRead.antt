@@ -8,35 +8,35 @@ use Rattle.std.proofs.lemmas.List.Elements.{All-append}
 use Rattle.std.proofs.lemmas.Option.{slice_get-get_or, slice_get_within}
 use Rattle.std.proofs.Math.Seq.{get_or-append_seam}
 use Rattle.star_label.specs.Files.{File}
-use Rattle.star_scope.specs.declared.program.Prelude.{Prelude}
+use Rattle.star_scope.specs.Resolve.{Outside}
 use Rattle.star_reading.specs.declared.reading.Read.{Read}
 use Rattle.star_reading.specs.declared.reading.Read.TheVariants as read
 use Rattle.star_reading.specs.Readings.{AreReadAs, IsPlaceOf, IsReadAs, Row, read_at}
 
 -- an entry is put in its place
-pub set_place : (files : List File) (prelude : Option Prelude) (row : Row) (k : ℕ) (o : Option Read) → k < length row → IsPlaceOf files prelude k o → AreReadAs files prelude row → AreReadAs files prelude (slice_set row k o)
-set_place files prelude row k o inside is all n d h = by_order (cases_order n k)
+pub set_place : (files : List File) (outside : Outside) (row : Row) (k : ℕ) (o : Option Read) → k < length row → IsPlaceOf files outside k o → AreReadAs files outside row → AreReadAs files outside (slice_set row k o)
+set_place files outside row k o inside is all n d h = by_order (cases_order n k)
   where
     short : n < length row
     short = let e = length-set row k o in omega (arith, e, h)
 
-    other : n ≢ k → IsPlaceOf files prelude n (get_or (slice_set row k o) n d)
-    other ne = subst (IsPlaceOf files prelude n) (sym (get_or-set_other row k n o d ne)) (all n d short)
+    other : n ≢ k → IsPlaceOf files outside n (get_or (slice_set row k o) n d)
+    other ne = subst (IsPlaceOf files outside n) (sym (get_or-set_other row k n o d ne)) (all n d short)
 
-    by_order : ((n ≡ k) ⊎ ((n < k) ⊎ (k < n))) → IsPlaceOf files prelude n (get_or (slice_set row k o) n d)
+    by_order : ((n ≡ k) ⊎ ((n < k) ⊎ (k < n))) → IsPlaceOf files outside n (get_or (slice_set row k o) n d)
     by_order (inl same) =
-        let here : IsPlaceOf files prelude k (get_or (slice_set row k o) k d) = subst (IsPlaceOf files prelude k) (sym (get_or-set_same row k o d inside)) is in
-        subst (λ i. IsPlaceOf files prelude i (get_or (slice_set row k o) i d)) (sym same) here
+        let here : IsPlaceOf files outside k (get_or (slice_set row k o) k d) = subst (IsPlaceOf files outside k) (sym (get_or-set_same row k o d inside)) is in
+        subst (λ i. IsPlaceOf files outside i (get_or (slice_set row k o) i d)) (sym same) here
     by_order (inr (inl less)) = other (omega arith)
     by_order (inr (inr less)) = other (omega arith)
 
 -- one more file is read
-pub set_read : (files : List File) (prelude : Option Prelude) (row : Row) (k : ℕ) (r : Read) → k < length row → IsReadAs files prelude k r → AreReadAs files prelude row → AreReadAs files prelude (slice_set row k (Some r))
-set_read files prelude row k r inside is all = set_place files prelude row k (Some r) inside is all
+pub set_read : (files : List File) (outside : Outside) (row : Row) (k : ℕ) (r : Read) → k < length row → IsReadAs files outside k r → AreReadAs files outside row → AreReadAs files outside (slice_set row k (Some r))
+set_read files outside row k r inside is all = set_place files outside row k (Some r) inside is all
 
 -- nothing is read
-pub none_read : (files : List File) (prelude : Option Prelude) (row : Row) → All (λ o. o ≡ None) row → AreReadAs files prelude row
-none_read files prelude row none n d h = subst (IsPlaceOf files prelude n) (sym (none n d h)) tt
+pub none_read : (files : List File) (outside : Outside) (row : Row) → All (λ o. o ≡ None) row → AreReadAs files outside row
+none_read files outside row none n d h = subst (IsPlaceOf files outside n) (sym (none n d h)) tt
 
 pub all_front : {X : Type 0} (P : X → Type 0) (xs : List X) (x : X) → All P (xs ++ x ∷ []) → All P xs
 all_front P xs x h k d lt = subst P (get_or_append_left xs (x ∷ []) d k lt) (h k d (let e = length-append xs (x ∷ []) in omega (arith, e, lt)))

@@ -13,7 +13,7 @@ use Rattle.star_parser.specs.Sources.{Parses}
 use Rattle.star_scope.specs.declared.loads.Load.{Load}
 use Rattle.star_scope.specs.declared.program.Prelude.{Prelude}
 use Rattle.star_scope.specs.declared.program.Program.{Program}
-use Rattle.star_scope.specs.Resolve.{Resolves, prelude_names}
+use Rattle.star_scope.specs.Resolve.{Outside, Resolves, outside, prelude_names}
 use Rattle.star_meaning.specs.Programs.{PlacedFile, file_in, placed_file, trees_of}
 use Rattle.star_plan.specs.Plan.{Plan, Reading, loaded, loads_of, read_of, tree_in}
 use Rattle.star_plan.specs.Reached.{IsReached, root, load}
@@ -56,7 +56,7 @@ trees_are [] = refl
 trees_are (o ∷ row) = ap (λ t. t ∷ trees_of (table_of row)) (trees_there o) ∙ ap (λ ts. tree_in (option_map reading_of o) ∷ ts) (trees_are row)
 
 -- a program of a row of read files is the answer of `resolve`
-resolved_at : (files : List File) (block : Option Prelude) (n : ℕ) (o : Option Read) (f : PlacedFile) → IsPlaceOf files block n o → placed_in o ≡ Some f → (p : Program) × (placed_file p ≡ f) × Resolves files n block f.statements (Ok p)
+resolved_at : (files : List File) (block : Outside) (n : ℕ) (o : Option Read) (f : PlacedFile) → IsPlaceOf files block n o → placed_in o ≡ Some f → (p : Program) × (placed_file p ≡ f) × Resolves files n block f.statements (Ok p)
 resolved_at files block n None f is e = absurd (let no : ⊥ = cc in no)
 resolved_at files block n (Some (read.Fault x)) f is e = absurd (let no : ⊥ = cc in no)
 resolved_at files block n (Some (read.Program p)) f is e =
@@ -67,7 +67,7 @@ resolved_at files block n (Some (read.Program p)) f is e =
     )
 
 -- the entry of a file is empty or its reading
-place_is : (files : List File) (block : Option Prelude) (row : Row) (n : ℕ) → AreReadAs files block row → IsPlaceOf files block n (read_at row n)
+place_is : (files : List File) (block : Outside) (row : Row) (n : ℕ) → AreReadAs files block row → IsPlaceOf files block n (read_at row n)
 place_is files block row n all = split (slice_get row n) refl
   where
     split : (o : Option (Option Read)) → slice_get row n ≡ o → IsPlaceOf files block n (option_flatten (slice_get row n))
@@ -84,19 +84,19 @@ placed_at row n = ap option_flatten (slice_get-map placed_in row n) ∙ flat (sl
     flat (Some x) = refl
 
 -- the programs of a row are the programs of a plan with its readings
-pub placed_so : (files : List File) (roots : List ℕ) (block : Option Prelude) (row : Row) (plan : Plan) → readings row ≡ plan.reads → IsPrelude files plan.prelude block → IsRowOf files block roots row → ArePlaced files plan (table_of row)
+pub placed_so : (files : List File) (roots : List ℕ) (block : Option Prelude) (row : Row) (plan : Plan) → readings row ≡ plan.reads → IsPrelude files plan.prelude block → IsRowOf files (outside block plan.mode.dialect) roots row → ArePlaced files plan (table_of row)
 placed_so files roots block row plan is prelude_is rows = record {
   prelude = block;
   prelude_is = prelude_is;
   statements = trees_are row ∙ ap (map tree_in) is;
-  right = λ n f e. resolved_at files block n (read_at row n) f (place_is files block row n rows.right) (sym (placed_at row n) ∙ e);
+  right = λ n f e. resolved_at files (outside block plan.mode.dialect) n (read_at row n) f (place_is files (outside block plan.mode.dialect) row n rows.right) (sym (placed_at row n) ∙ e);
 }
 
-read_as : (files : List File) (block : Option Prelude) (n : ℕ) (q : Read) → IsReadAs files block n q → IsRead files block n (reading_of q)
+read_as : (files : List File) (block : Outside) (n : ℕ) (q : Read) → IsReadAs files block n q → IsRead files block n (reading_of q)
 read_as files block n (read.Fault f) is = is
 read_as files block n (read.Program p) is = (is.0, is.1, sym is.2, (p, subst (λ ss. Resolves files n block ss (Ok p)) (sym is.2) is.3, refl))
 
-read_there : (files : List File) (block : Option Prelude) (n : ℕ) (o : Option Read) (r : Reading) → IsPlaceOf files block n o → option_map reading_of o ≡ Some r → IsRead files block n r
+read_there : (files : List File) (block : Outside) (n : ℕ) (o : Option Read) (r : Reading) → IsPlaceOf files block n o → option_map reading_of o ≡ Some r → IsRead files block n r
 read_there files block n None r is e = absurd (let no : ⊥ = cc in no)
 read_there files block n (Some q) r is e = subst (IsRead files block n) (let same : reading_of q ≡ r = cc in same) (read_as files block n q is)
 
@@ -106,10 +106,10 @@ some_read None r e = absurd (let no : ⊥ = cc in no)
 some_read (Some q) r e = refl
 
 -- the readings of a row are the plan of the files
-pub planned_so : (files : List File) (block : Option Prelude) (row : Row) (plan : Plan) → readings row ≡ plan.reads → IsPrelude files plan.prelude block → IsRowOf files block plan.roots row → IsPlanOf files plan
+pub planned_so : (files : List File) (block : Option Prelude) (row : Row) (plan : Plan) → readings row ≡ plan.reads → IsPrelude files plan.prelude block → IsRowOf files (outside block plan.mode.dialect) plan.roots row → IsPlanOf files plan
 planned_so files block row plan is prelude_is rows = readings_make_plans files plan block prelude_is (ap length (sym is) ∙ (length-map row (option_map reading_of) ∙ rows.sized))
     (λ n r e. let there : option_map reading_of (read_at row n) ≡ Some r = sym (read_is plan row n is) ∙ e in
-    (read_there files block n (read_at row n) r (place_is files block row n rows.right) there, reached_in plan.roots row plan refl (λ k. loads_are plan row k is) n (rows.reached n (some_read (read_at row n) r there))))
+    (read_there files (outside block plan.mode.dialect) n (read_at row n) r (place_is files (outside block plan.mode.dialect) row n rows.right) there, reached_in plan.roots row plan refl (λ k. loads_are plan row k is) n (rows.reached n (some_read (read_at row n) r there))))
     (λ n h. known n (root_read row plan.roots n rows.closed h))
     (λ n m r e l. known m (load_read plan row n m is rows.closed l))
   where

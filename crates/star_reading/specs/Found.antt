@@ -1,9 +1,11 @@
 -- The files that were found and read so far, and at the end all that roots reach.
 use Rattle.std.specs.Prelude.{◌≡◌, ◌+◌, ◌<◌, ◌⊎◌, ℕ, Bool, true, false, List, [], ◌∷◌, ◌++◌, None, Option, length, All, IsSome, Contains, count_by, nat_eq, not, slice_index_or}
 use Rattle.std.specs.List.{list_any}
+use Rattle.star_dialect.specs.declared.Dialect.{Dialect}
 use Rattle.star_dialect.specs.declared.Dialect.TheVariants.{Core}
 use Rattle.star_label.specs.Files.{File}
 use Rattle.star_scope.specs.declared.program.Prelude.{Prelude}
+use Rattle.star_scope.specs.Resolve.{Outside, outside}
 use Rattle.star_plan.specs.Plan.{Plan}
 use Rattle.star_plan.specs.Reached.{IsReached}
 use Rattle.star_plan.specs.Reading.{IsPrelude}
@@ -54,9 +56,9 @@ pub record Grew (ns : List ℕ) (marks : List Bool) (todo : List ℕ) (marks_aft
   pub left : left_of marks_after todo_after ≡ left_of marks todo
 
 -- the files found so far: the roots, and the loads of all read files. Each is reached, and is read or waits to be read
-pub record AreFound (files : List File) (prelude : Option Prelude) (roots : List ℕ) (row : Row) (marks : List Bool)
+pub record AreFound (files : List File) (outside : Outside) (roots : List ℕ) (row : Row) (marks : List Bool)
     (todo : List ℕ) : Type 0 where
-  pub right : AreReadAs files prelude row
+  pub right : AreReadAs files outside row
   pub sized : length row ≡ length files
   pub marked : length marks ≡ length files
   pub starts : All (IsMarked marks) roots
@@ -67,25 +69,26 @@ pub record AreFound (files : List File) (prelude : Option Prelude) (roots : List
   pub waits : All (IsMarked marks) todo
 
 -- this holds of the files that the code has found
-abbrev pub HasFound : List File → Option Prelude → List ℕ → Found → Type 0
-HasFound files prelude roots f = AreFound files prelude roots f.reads.items f.marks.items f.todo.items
+abbrev pub HasFound : List File → Outside → List ℕ → Found → Type 0
+HasFound files outside roots f = AreFound files outside roots f.reads.items f.marks.items f.todo.items
 
 -- the same if one more file waits, the last
-abbrev pub HasFoundWith : List File → Option Prelude → List ℕ → Found → ℕ → Type 0
-HasFoundWith files prelude roots f n = AreFound files prelude roots f.reads.items f.marks.items (f.todo.items ++ n ∷ [])
+abbrev pub HasFoundWith : List File → Outside → List ℕ → Found → ℕ → Type 0
+HasFoundWith files outside roots f n = AreFound files outside roots f.reads.items f.marks.items (f.todo.items ++ n ∷ [])
 
 -- the row has the readings of all files that the roots reach, and of no others
-pub record IsRowOf (files : List File) (prelude : Option Prelude) (roots : List ℕ) (row : Row) : Type 0 where
-  pub right : AreReadAs files prelude row
+pub record IsRowOf (files : List File) (outside : Outside) (roots : List ℕ) (row : Row) : Type 0 where
+  pub right : AreReadAs files outside row
   pub sized : length row ≡ length files
   pub closed : IsClosed row roots
   pub reached : (n : ℕ) → IsSome (read_at row n) → IsReachedBy roots row n
 
 -- whatever is there for a file, by its number, is its reading: the prelude is this file
-abbrev pub AreKnown : List File → Option ℕ → Row → Type 0
-AreKnown files prelude row = (block : Option Prelude) → IsPrelude files prelude block → AreReadAs files block row
+abbrev pub AreKnown : List File → Option ℕ → Dialect → Row → Type 0
+AreKnown files prelude d row =
+    (block : Option Prelude) → IsPrelude files prelude block → AreReadAs files (outside block d) row
 
--- the row is right for the files that see this prelude, and for the prelude itself
-abbrev pub IsReadOf : List File → List ℕ → Option ℕ → Row → Type 0
-IsReadOf files roots prelude row =
-    (block : Option Prelude) × IsPrelude files prelude block × IsRowOf files block roots row
+-- the row is right for the files that see this prelude, and for the prelude itself, in a dialect
+abbrev pub IsReadOf : List File → List ℕ → Option ℕ → Dialect → Row → Type 0
+IsReadOf files roots prelude d row =
+    (block : Option Prelude) × IsPrelude files prelude block × IsRowOf files (outside block d) roots row

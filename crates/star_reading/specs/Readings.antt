@@ -5,8 +5,7 @@ use Rattle.star_label.specs.Files.{File, text_at}
 use Rattle.star_tree.specs.declared.tree.Tree.{Tree}
 use Rattle.star_parser.specs.Sources.{Parses}
 use Rattle.star_scope.specs.declared.loads.Load.{Load}
-use Rattle.star_scope.specs.declared.program.Prelude.{Prelude}
-use Rattle.star_scope.specs.Resolve.{Resolves}
+use Rattle.star_scope.specs.Resolve.{Outside, Resolves}
 use Rattle.star_meaning.specs.Programs.{Files, IsOfFile, PlacedFile, placed_file}
 use Rattle.star_plan.specs.Plan.{Plan, Reading, Sound, Faulty, loads_in}
 use Rattle.star_plan.specs.Reading.{IsRead}
@@ -54,26 +53,26 @@ placed_in (Some (read.Fault f)) = None
 abbrev pub table_of : Row → Files
 table_of row = map placed_in row
 
--- this is read of the file n: its program, by its text and the prelude that it sees, or its static fault
-abbrev pub IsReadAs : List File → Option Prelude → ℕ → Read → Type 0
-IsReadAs files prelude n (read.Program p) =
+-- this is read of the file n: its program, by its text and what is outside of it, or its static fault
+abbrev pub IsReadAs : List File → Outside → ℕ → Read → Type 0
+IsReadAs files outside n (read.Program p) =
     (tree : Tree) × Parses (text_at files n) (Ok tree) × (p.statements.now ≡ tree.statements)
-    × Resolves files n prelude tree.statements (Ok p)
-IsReadAs files prelude n (read.Fault f) = IsRead files prelude n (Faulty (fault_of f))
+    × Resolves files n outside tree.statements (Ok p)
+IsReadAs files outside n (read.Fault f) = IsRead files outside n (Faulty (fault_of f))
 
 -- an entry of a row is empty, or the reading of the file
-abbrev pub IsPlaceOf : List File → Option Prelude → ℕ → Option Read → Type 0
-IsPlaceOf files prelude n None = Unit {0}
-IsPlaceOf files prelude n (Some r) = IsReadAs files prelude n r
+abbrev pub IsPlaceOf : List File → Outside → ℕ → Option Read → Type 0
+IsPlaceOf files outside n None = Unit {0}
+IsPlaceOf files outside n (Some r) = IsReadAs files outside n r
 
 -- each entry of a row is empty or the reading of its file
-abbrev pub AreReadAs : List File → Option Prelude → Row → Type 0
-AreReadAs files prelude row =
-    (n : ℕ) (d : Option Read) → n < length row → IsPlaceOf files prelude n (slice_index_or row n d)
+abbrev pub AreReadAs : List File → Outside → Row → Type 0
+AreReadAs files outside row =
+    (n : ℕ) (d : Option Read) → n < length row → IsPlaceOf files outside n (slice_index_or row n d)
 
 -- each of these is the reading of the file with its number
-abbrev pub AreAllReadAs : List File → Option Prelude → List (ℕ × Read) → Type 0
-AreAllReadAs files prelude reads = All (λ p. IsReadAs files prelude p.0 p.1) reads
+abbrev pub AreAllReadAs : List File → Outside → List (ℕ × Read) → Type 0
+AreAllReadAs files outside reads = All (λ p. IsReadAs files outside p.0 p.1) reads
 
 -- a program among the read files is the program of some file
 abbrev pub IsPlaceable : Option Read → Type 0

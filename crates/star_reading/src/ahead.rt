@@ -2,7 +2,7 @@
 //! read. They read files as they are found, and some before that, when they would sleep.
 
 ghost use Rattle.std.specs.Prelude.{◌<◌, IfOk, OnOk, length};
-ghost use Rattle.std.specs.Option.{option_copied};
+ghost use Rattle.star_scope.specs.Resolve.{outside_seen};
 ghost use Rattle.star_reading.specs.Ahead.{AreSharesReadAs, IsTaken, StayReadings, StaysRight};
 ghost use Rattle.star_reading.specs.Parsed.{AreParsesOf};
 ghost use Rattle.star_reading.specs.Readings.{AreReadAs, AreAllReadAs, IsReadAs};
@@ -42,7 +42,8 @@ impl<'s, 't> Reader<'s, 't> {
         n: usize,
     ) -> Result<Vec<usize>, AllocError>
         requires parses { AreParsesOf self.now.files.now self.now.parses.now }
-        ensures { OnOk result (StayReadings self.now.files.now (option_copied self.now.prelude) reads.old.items
+        ensures { OnOk result
+            (StayReadings self.now.files.now (outside_seen self.now.prelude self.now.dialect) reads.old.items
             reads.new.items) }
     {
         if n >= self.files.len() {
@@ -58,7 +59,7 @@ impl<'s, 't> Reader<'s, 't> {
     fn read_found<R: Wait>(&self, rt: &R, search: &Search, thread: usize) -> Readings<'t>
         requires parses { AreParsesOf self.now.files.now self.now.parses.now }
         ensures { IfOk result (λ reads.
-            AreAllReadAs self.now.files.now (option_copied self.now.prelude) reads.items) }
+            AreAllReadAs self.now.files.now (outside_seen self.now.prelude self.now.dialect) reads.items) }
     {
         let mut reads = Vec::new(self.alloc);
         let mut read = None;
@@ -76,7 +77,7 @@ impl<'s, 't> Reader<'s, 't> {
     fn read_share<R: Wait>(&self, rt: &R, search: &Search, thread: usize) -> Readings<'t>
         requires parses { AreParsesOf self.now.files.now self.now.parses.now }
         ensures { IfOk result (λ reads.
-            AreAllReadAs self.now.files.now (option_copied self.now.prelude) reads.items) }
+            AreAllReadAs self.now.files.now (outside_seen self.now.prelude self.now.dialect) reads.items) }
     {
         let reads = self.read_found(rt, search, thread);
         if reads.is_err() {
@@ -94,7 +95,7 @@ impl<'s, 't> Reader<'s, 't> {
     ) -> Result<Vec<Readings<'t>>, AllocError>
         requires parses { AreParsesOf self.now.files.now self.now.parses.now }
         ensures { IfOk result (λ shares.
-            AreSharesReadAs self.now.files.now (option_copied self.now.prelude) shares.items) }
+            AreSharesReadAs self.now.files.now (outside_seen self.now.prelude self.now.dialect) shares.items) }
     {
         thread::map_indices(
             rt,
@@ -103,7 +104,8 @@ impl<'s, 't> Reader<'s, 't> {
             &|thread: usize| -> Result<Vec<(usize, Read)>, AllocError>
                 requires { AreParsesOf self.now.files.now self.now.parses.now }
                 ensures { IfOk result (λ reads.
-                    AreAllReadAs self.entry.now.files.now (option_copied self.entry.now.prelude) reads.items) }
+                    AreAllReadAs self.entry.now.files.now (outside_seen self.entry.now.prelude self.entry.now.dialect)
+                    reads.items) }
             { self.read_share(rt, search, thread) },
         )
     }
@@ -116,7 +118,7 @@ impl<'s, 't> Reader<'s, 't> {
     ) -> Result<Found<'t>, AllocError>
         requires parses { AreParsesOf self.now.files.now self.now.parses.now }
         ensures { IfOk result (λ ahead.
-            AreReadAs self.now.files.now (option_copied self.now.prelude) ahead.reads.items) }
+            AreReadAs self.now.files.now (outside_seen self.now.prelude self.now.dialect) ahead.reads.items) }
     {
         let count = self.files.len();
         let mut ahead = Found::new(self.alloc, count)?;
@@ -139,9 +141,9 @@ impl<'s, 't> Reader<'s, 't> {
         threads: usize,
     ) -> Result<Found<'t>, AllocError>
         requires parses { AreParsesOf self.now.files.now self.now.parses.now }
-        requires known { AreReadAs self.now.files.now (option_copied self.now.prelude) known.items }
+        requires known { AreReadAs self.now.files.now (outside_seen self.now.prelude self.now.dialect) known.items }
         ensures { IfOk result (λ ahead.
-            AreReadAs self.now.files.now (option_copied self.now.prelude) ahead.reads.items) }
+            AreReadAs self.now.files.now (outside_seen self.now.prelude self.now.dialect) ahead.reads.items) }
     {
         if known.iter().all(|read| read.is_none()) {
             return self.read_ahead(rt, threads);
@@ -162,9 +164,11 @@ impl<'s, 't> Reader<'s, 't> {
     ) -> Result<Read<'t>, AllocError>
         requires parses { AreParsesOf self.now.files.now self.now.parses.now }
         requires file { n < length self.now.files.now }
-        requires ahead { AreReadAs self.now.files.now (option_copied self.now.prelude) ahead.old.reads.items }
-        ensures read { IfOk result (IsReadAs self.now.files.now (option_copied self.now.prelude) n) }
-        ensures ahead { AreReadAs self.now.files.now (option_copied self.now.prelude) ahead.new.reads.items }
+        requires ahead { AreReadAs self.now.files.now (outside_seen self.now.prelude self.now.dialect)
+            ahead.old.reads.items }
+        ensures read { IfOk result (IsReadAs self.now.files.now (outside_seen self.now.prelude self.now.dialect) n) }
+        ensures ahead { AreReadAs self.now.files.now (outside_seen self.now.prelude self.now.dialect)
+            ahead.new.reads.items }
     {
         match ahead.take(n) {
             Some(read) => Ok(read),
@@ -187,7 +191,7 @@ impl<'t> Found<'t> {
 
     /// Records that a file was read, if there is one with this number.
     fn add_read(&mut self, n: usize, read: Read<'t>) -> Result<(), AllocError>
-        ensures { OnOk result (StaysRight (λ files prelude. IsReadAs files prelude n read.entry)
+        ensures { OnOk result (StaysRight (λ files outside. IsReadAs files outside n read.entry)
             self.old.reads.items self.new.reads.items) }
     {
         if n >= self.reads.len() {
@@ -199,7 +203,7 @@ impl<'t> Found<'t> {
 
     /// Records that several files were read.
     fn add_each(&mut self, reads: Vec<(usize, Read<'t>)>) -> Result<(), AllocError>
-        ensures { OnOk result (StaysRight (λ files prelude. AreAllReadAs files prelude reads.entry.items)
+        ensures { OnOk result (StaysRight (λ files outside. AreAllReadAs files outside reads.entry.items)
             self.old.reads.items self.new.reads.items) }
     {
         for (n, read) in reads {
@@ -210,7 +214,7 @@ impl<'t> Found<'t> {
 
     /// Records the files that several threads have read.
     fn add_shares(&mut self, shares: Vec<Readings<'t>>) -> Result<(), AllocError>
-        ensures { OnOk result (StaysRight (λ files prelude. AreSharesReadAs files prelude shares.entry.items)
+        ensures { OnOk result (StaysRight (λ files outside. AreSharesReadAs files outside shares.entry.items)
             self.old.reads.items self.new.reads.items) }
     {
         for share in shares {

@@ -3,10 +3,9 @@
 ghost use Rattle.std.specs.Prelude.{◌≡◌, ◌<◌, ◌∷◌, ◌++◌, ℕ, List, None, Option, Some, Ok, [], All, IfOk, IfSome, IsTrue, IsFalse};
 ghost use Rattle.std.specs.Prelude.{IsSome, MatchOption, OnOk, false, length, map, replicate};
 ghost use Rattle.std.specs.Prelude.{slice_set, vec_len, ⊤};
-ghost use Rattle.std.specs.Option.{option_copied};
 ghost use Rattle.star_label.specs.Files.{File, text_at};
 ghost use Rattle.star_parser.specs.Sources.{Parses};
-ghost use Rattle.star_scope.specs.declared.program.Prelude.{Prelude as PreludeView};
+ghost use Rattle.star_scope.specs.Resolve.{Outside, outside_seen};
 ghost use Rattle.star_reading.specs.Ahead.{StaysRight};
 ghost use Rattle.star_reading.specs.Found.{AreKnown, Grew, HasFound, HasFoundWith, IsMarked, IsRowOf, Within, left_of};
 ghost use Rattle.star_reading.specs.Parsed.{AreParsesOf};
@@ -14,6 +13,7 @@ ghost use Rattle.star_reading.specs.Readings.{AreReadAs, IsReadAs, loads_at, loa
 
 use crate::code::{StaticFault, of_scope, of_syntax};
 use crate::parses::{Parsed, parsed_once};
+use star_dialect::Dialect;
 use star_label::files::Files as Labels;
 use star_scope::loads::Load;
 use star_scope::program::{Prelude, Program, resolve};
@@ -75,7 +75,7 @@ impl<'t> Reads<'t> {
 
     /// Takes the result of reading another file in, if none is there at its place.
     fn take_other(&mut self, n: usize)
-        ensures all { StaysRight (λ files prelude. AreReadAs files prelude self.old.others.items)
+        ensures all { StaysRight (λ files outside. AreReadAs files outside self.old.others.items)
             self.old.all.items self.new.all.items }
         ensures others { StaysRight (λ _ _. ⊤) self.old.others.items self.new.others.items }
         ensures size { vec_len self.new.others ≡ vec_len self.old.others }
@@ -89,8 +89,8 @@ impl<'t> Reads<'t> {
     /// Takes the results of reading other files in, each at its place if none is there.
     pub fn take_others(&mut self)
         // It is long since it is about three rows.
-        ensures { (files : List File) (prelude : Option ℕ) → AreKnown files prelude self.old.all.items
-            → AreKnown files prelude self.old.others.items → AreKnown files prelude self.new.all.items }
+        ensures { (files : List File) (prelude : Option ℕ) (d : Dialect) → AreKnown files prelude d self.old.all.items
+            → AreKnown files prelude d self.old.others.items → AreKnown files prelude d self.new.all.items }
     {
         for n in 0..self.others.len() {
             self.take_other(n);
@@ -115,19 +115,20 @@ pub fn loads_in<'s, 't>(reads: &'s [Option<Read<'t>>], n: usize) -> &'s [Load]
     }
 }
 
-/// The result of resolving the tree of a file, which sees this prelude. The error: an allocation failed.
+/// The result of resolving the tree of a file, which sees this prelude, in a dialect. The error: an allocation failed.
 pub fn resolved<'t>(
     alloc: Global,
     files: &Labels,
     prelude: Option<&Prelude<'t>>,
+    dialect: Dialect,
     n: usize,
     tree: &'t Tree,
 ) -> Result<Read<'t>, AllocError>
     requires file { n < length files.now }
     requires tree { Parses (text_at files.now n) (Ok tree.now) }
-    ensures { IfOk result (IsReadAs files.now (option_copied prelude.entry) n) }
+    ensures { IfOk result (IsReadAs files.now (outside_seen prelude.entry dialect) n) }
 {
-    match resolve(alloc, files, n, tree, prelude) {
+    match resolve(alloc, files, n, tree, prelude, dialect) {
         Ok(program) => Ok(Read::Program(program)),
         Err(fault) => match of_scope(fault) {
             Some(fault) => Ok(Read::Fault(fault)),
@@ -137,7 +138,7 @@ pub fn resolved<'t>(
 }
 
 /// All that is needed to read files: their texts, the place of their trees, the texts that are parsed already, the
-/// prelude, and the roots.
+/// prelude, the dialect, and the roots.
 #[derive(Drop)]
 pub struct Reader<'s, 't> {
     pub alloc: Global,
@@ -146,6 +147,7 @@ pub struct Reader<'s, 't> {
     /// The results of parsing texts, by the numbers of their files; none for a text that is not parsed yet.
     pub parses: &'s [Option<Parsed<'t>>],
     pub prelude: Option<&'s Prelude<'t>>,
+    pub dialect: Dialect,
     pub roots: &'s [usize],
 }
 
@@ -154,10 +156,10 @@ impl<'s, 't> Reader<'s, 't> {
     pub(crate) fn read<R: Wait>(&self, rt: &R, n: usize) -> Result<Read<'t>, AllocError>
         requires parses { AreParsesOf self.now.files.now self.now.parses.now }
         requires file { n < length self.now.files.now }
-        ensures { IfOk result (IsReadAs self.now.files.now (option_copied self.now.prelude) n) }
+        ensures { IfOk result (IsReadAs self.now.files.now (outside_seen self.now.prelude self.now.dialect) n) }
     {
         match parsed_once(rt, self.alloc, self.files, self.trees, self.parses, n)? {
-            Ok(tree) => resolved(self.alloc, self.files, self.prelude, n, tree),
+            Ok(tree) => resolved(self.alloc, self.files, self.prelude, self.dialect, n, tree),
             Err(fault) => match of_syntax(fault) {
                 Some(fault) => Ok(Read::Fault(fault)),
                 None => unreachable!(),
@@ -174,16 +176,20 @@ impl<'s, 't> Reader<'s, 't> {
         n: usize,
     ) -> Result<(), AllocError>
         requires parses { AreParsesOf self.now.files.now self.now.parses.now }
-        requires ahead { AreReadAs self.now.files.now (option_copied self.now.prelude) ahead.old.reads.items }
+        requires ahead { AreReadAs self.now.files.now (outside_seen self.now.prelude self.now.dialect)
+            ahead.old.reads.items }
         requires file { n < length self.now.files.now }
         requires prelude { IfSome self.now.prelude (λ p. p.now.file < length self.now.files.now) }
-        requires found { HasFoundWith self.now.files.now (option_copied self.now.prelude) self.now.roots.now found.old
+        requires found { HasFoundWith self.now.files.now (outside_seen self.now.prelude self.now.dialect)
+            self.now.roots.now found.old
             n }
         ensures found { OnOk result
-            (HasFound self.now.files.now (option_copied self.now.prelude) self.now.roots.now found.new) }
+            (HasFound self.now.files.now (outside_seen self.now.prelude self.now.dialect) self.now.roots.now
+            found.new) }
         ensures left { OnOk result (left_of found.new.marks.items found.new.todo.items
             ≡ left_of found.old.marks.items found.old.todo.items) }
-        ensures ahead { AreReadAs self.now.files.now (option_copied self.now.prelude) ahead.new.reads.items }
+        ensures ahead { AreReadAs self.now.files.now (outside_seen self.now.prelude self.now.dialect)
+            ahead.new.reads.items }
     {
         if found.is_read(n) {
             return Ok(());
@@ -206,11 +212,11 @@ impl<'s, 't> Reader<'s, 't> {
         requires parses { AreParsesOf self.now.files.now self.now.parses.now }
         requires roots { Within self.now.files.now self.now.roots.now }
         requires prelude { IfSome self.now.prelude (λ p. p.now.file < length self.now.files.now) }
-        requires known { AreReadAs self.now.files.now (option_copied self.now.prelude) known.items }
-        ensures all { IfOk result (λ reads. IsRowOf self.now.files.now (option_copied self.now.prelude)
+        requires known { AreReadAs self.now.files.now (outside_seen self.now.prelude self.now.dialect) known.items }
+        ensures all { IfOk result (λ reads. IsRowOf self.now.files.now (outside_seen self.now.prelude self.now.dialect)
             self.now.roots.now reads.all.items) }
         ensures others { IfOk result (λ reads.
-            AreReadAs self.now.files.now (option_copied self.now.prelude) reads.others.items) }
+            AreReadAs self.now.files.now (outside_seen self.now.prelude self.now.dialect) reads.others.items) }
     {
         let mut ahead = self.read_before(rt, known, threads)?;
         let mut found = Found::from_roots(self.alloc, self.files, self.roots)?;
@@ -275,7 +281,7 @@ impl<'t> Found<'t> {
         roots: &[usize],
     ) -> Result<Found<'t>, AllocError>
         requires { Within files.now roots.now }
-        ensures { IfOk result (λ f. (prelude : Option PreludeView) → HasFound files.now prelude roots.now f) }
+        ensures { IfOk result (λ f. (outside : Outside) → HasFound files.now outside roots.now f) }
     {
         let mut found = Found::new(alloc, files.len())?;
         found.mark_each(roots)?;

@@ -12,3 +12,4 @@ pub mod Parts
 pub mod Ended
 pub mod Turns
 pub mod SameWords
+pub mod Texts

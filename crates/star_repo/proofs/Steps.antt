@@ -50,7 +50,7 @@ no_file_told None h = tt
 no_file_told (Some None) h = refl
 no_file_told (Some (Some all)) h = absurd (some_none _ (sym h))
 
-refuses_all : (count size : ℕ) (all front : List ℕ) (e : ServeError) → front ≡ take 1048577 all → Refuses count size front e → Refuses count size all e
+pub refuses_all : (count size : ℕ) (all front : List ℕ) (e : ServeError) → front ≡ take 1048577 all → Refuses count size front e → Refuses count size all e
 refuses_all count size all front error.Read q h = h
 refuses_all count size all front error.TooBig q h =
     let same = whole_front all front q h.1 in

@@ -4,6 +4,7 @@ pub mod Memory
 pub mod Loading
 pub mod Reach
 pub mod Refusal
+pub mod Text
 pub mod Laws
 pub mod Parsed
 pub mod Way

@@ -1,5 +1,5 @@
 //! Files on demand: the files that roots reach in a folder, each found by its label when a load statement asks for it
-//! (`docs/FOLDERS.md`). Nothing is listed, and no text is parsed twice.
+//! (`docs/USING.md`). Nothing is listed, and no text is parsed twice.
 //!
 //! - `Repo` is a trait: it finds the file of a label, and its ghost members, which only contracts see, say which files
 //!   it has. `DiskRepo` is the disk, `MemoryRepo` a table.
@@ -9,6 +9,7 @@
 //! - `known` has texts that were parsed before, which are not parsed again.
 //! - `asked::read_asked` begins with the words of the command line.
 //! - `RepoError` is a refusal with its label, and `wanting` finds the load statement to name beside it.
+//! - `text::text_at` is the text of one file, apart from a run.
 //!
 //! Begin at `reach.rt`, from its end. The promise is the contract of `read_reached`: the files of the least set of
 //! labels that has the roots and all loads of its members (`specs/Reach`), or the one refusal that comes first, by
@@ -28,6 +29,7 @@ pub mod reach;
 mod read;
 pub mod repo;
 mod round;
+pub mod text;
 pub mod wanting;
 
 pub use law::{

@@ -25,7 +25,7 @@ const ALL_BYTES: usize = 268_435_456;
 
 /// The text of a file with these bytes, read after `count` files of `size` bytes together. Refused as `TooMany`,
 /// `TooLong`, `NotText`, `TooBig`, whichever comes first.
-fn passed(count: usize, size: usize, bytes: Vec<u8>) -> Result<String, ServeError>
+pub(crate) fn passed(count: usize, size: usize, bytes: Vec<u8>) -> Result<String, ServeError>
     requires count { count ≤ 10000 }
     requires size { size ≤ 268435456 }
     ensures text { IfOk result (λ text. string_bytes text ≡ bytes.items) }

@@ -13,7 +13,7 @@ use Rattle.star_store.specs.declared.values.Value.TheVariants as value
 use Rattle.star_store.specs.declared.values.Cell.{Cell}
 use Rattle.star_store.specs.declared.values.Cell.TheVariants as cell
 use Rattle.star_store.specs.Store.{global_of}
-use Rattle.star_data.specs.Data.{cell_data, cell_of, data_of, entries_data, items_data, key_in, on_shelf, value_data}
+use Rattle.star_data.specs.Data.{cell_data, cell_of, data_of, entries_data, fields_data, items_data, key_in, on_shelf, utf8_of, value_data}
 use Rattle.star_data.proofs.Options.{chained, mapped}
 use Rattle.star_scope.specs.Loads.{is_private}
 use Rattle.star_meaning.specs.Module.{Good, Stopped, most_levels}
@@ -73,11 +73,20 @@ entries_plain look f h (x ∷ es) ms e =
     let rest = mapped (put k.0 d.0) (entries_data look f es) ms d.2 in
     ap members_have_float (sym rest.2) ∙ put_none k.0 d.0 rest.0 (h x.1 d.0 d.1) (entries_plain look f h es rest.0 rest.1)
 
+fields_plain : (f : Value → Option Data) → Plain f → (fs : List (List ℕ × Value)) (ms : Members) → fields_data f fs ≡ Some ms → members_have_float ms ≡ false
+fields_plain f h [] ms e = let same : no_members ≡ ms = cc in ap members_have_float (sym same)
+fields_plain f h (x ∷ fs) ms e =
+    let k = chained (λ k. option_and_then (λ d. option_map (put k d) (fields_data f fs)) (f x.1)) (utf8_of x.0) ms e in
+    let d = chained (λ d. option_map (put k.0 d) (fields_data f fs)) (f x.1) ms k.2 in
+    let rest = mapped (put k.0 d.0) (fields_data f fs) ms d.2 in
+    ap members_have_float (sym rest.2) ∙ put_none k.0 d.0 rest.0 (h x.1 d.0 d.1) (fields_plain f h fs rest.0 rest.1)
+
 cell_plain : (look : Value → Option Cell) (f : Value → Option Data) → Plain f → (o : Option Cell) (d : Data) → cell_data look f o ≡ Some d → has_float d ≡ false
 cell_plain look f h (Some (cell.Text t)) d e = ap has_float (sym (string_is t d e).0)
 cell_plain look f h (Some (cell.Tuple xs)) d e = let all = mapped array (items_data f xs) d e in ap has_float (sym all.2) ∙ items_plain f h xs all.0 all.1
 cell_plain look f h (Some (cell.List xs)) d e = let all = mapped array (items_data f xs) d e in ap has_float (sym all.2) ∙ items_plain f h xs all.0 all.1
 cell_plain look f h (Some (cell.Dict es)) d e = let all = mapped object (entries_data look f es) d e in ap has_float (sym all.2) ∙ entries_plain look f h es all.0 all.1
+cell_plain look f h (Some (cell.Struct fs)) d e = let all = mapped object (fields_data f fs) d e in ap has_float (sym all.2) ∙ fields_plain f h fs all.0 all.1
 cell_plain look f h (Some (cell.Range r)) d e = absurd (let no : ⊥ = cc in no)
 cell_plain look f h (Some (cell.Func r)) d e = absurd (let no : ⊥ = cc in no)
 cell_plain look f h (Some (cell.Frame r)) d e = absurd (let no : ⊥ = cc in no)

@@ -58,5 +58,5 @@ pub record IsReportBut (wanted : Wanted) (files : List File) (plan : Plan) (reac
 -- this holds in the plan that files have for roots, by what was read of them, if a run has its modules
 abbrev pub ReportsRun : Wanted → List File → Row → List ℕ → RunView → List ℕ → Type 0
 ReportsRun wanted files row roots run text =
-    (plan : Plan) → IsPlanOf files plan → plan.roots ≡ roots → IsReadOf files roots plan.prelude row
+    (plan : Plan) → IsPlanOf files plan → plan.roots ≡ roots → IsReadOf files roots plan.prelude plan.mode.dialect row
     → AreModules plan run.kept → IsReportBut wanted files plan (length run.kept) run.begun text

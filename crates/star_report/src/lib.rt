@@ -1,4 +1,4 @@
-//! The report of a run: one JSON text on one line (`docs/REPORT.md`).
+//! The report of a run: one JSON text on one line (`docs/USING.md`).
 //!
 //! - `report::report` writes a page for each module (`pages`), in several threads if there are many, and joins the
 //!   pages in the order of labels. The JSON of a module is made there too. For a static fault or a failed load it is

@@ -7,7 +7,7 @@ use Rattle.star_scope.specs.declared.spot.Spot.TheVariants as spot
 use Rattle.star_outline.specs.Names.{Names, has_name, same_name, slot_of}
 use Rattle.star_outline.specs.Outlines.{names_in}
 use Rattle.star_outline.specs.declared.blocks.Block.{Block}
-use Rattle.star_scope.specs.Places.{FitRows, Leads, Row, SpotsLead, first_there, nearest, or_further, outermost_names, outside_spot, prelude_has, spot_in, spot_of, value_at, value_beside}
+use Rattle.star_scope.specs.Places.{FitRows, Leads, Outer, Row, SpotsLead, first_there, nearest, or_further, outermost_names, outside_spot, prelude_has, spot_in, spot_of, value_at, value_beside}
 use Rattle.star_outline.proofs.Numbers.{position_next}
 
 -- ---- in one row
@@ -41,45 +41,45 @@ beside name (n ∷ ns) (v ∷ vs) e =
 -- ---- in a chain of rows
 
 -- a spot found from a block of the chain on, which is `up` blocks up
-abbrev Found : {V : Type 0} → List Block → Option Names → List ℕ → ℕ → List (Row V) → Option Spot → Type 0
-Found {V = V} blocks prelude name up rows (Some (spot.Frame u slot)) = (k : ℕ) × (v : V) × (u ≡ up + k) × (value_at k slot rows ≡ Some v) × (nearest blocks name rows ≡ Some v)
-Found blocks prelude name up rows (Some spot.Prelude) = (nearest blocks name rows ≡ None) × (outside_spot prelude name ≡ Some spot.Prelude)
-Found blocks prelude name up rows (Some spot.Outermost) = (nearest blocks name rows ≡ None) × (outside_spot prelude name ≡ Some spot.Outermost)
-Found blocks prelude name up rows None = (nearest blocks name rows ≡ None) × (outside_spot prelude name ≡ None)
+abbrev Found : {V : Type 0} → List Block → Outer → List ℕ → ℕ → List (Row V) → Option Spot → Type 0
+Found {V = V} blocks outer name up rows (Some (spot.Frame u slot)) = (k : ℕ) × (v : V) × (u ≡ up + k) × (value_at k slot rows ≡ Some v) × (nearest blocks name rows ≡ Some v)
+Found blocks outer name up rows (Some spot.Prelude) = (nearest blocks name rows ≡ None) × (outside_spot outer name ≡ Some spot.Prelude)
+Found blocks outer name up rows (Some spot.Outermost) = (nearest blocks name rows ≡ None) × (outside_spot outer name ≡ Some spot.Outermost)
+Found blocks outer name up rows None = (nearest blocks name rows ≡ None) × (outside_spot outer name ≡ None)
 
-outside : (V : Type 0) (blocks : List Block) (prelude : Option Names) (name : List ℕ) (up : ℕ) (o : Option Spot) → outside_spot prelude name ≡ o → Found {V = V} blocks prelude name up [] o
-outside V blocks prelude name up (Some (spot.Frame u slot)) e = absurd (never (prelude_has prelude name) (has_name outermost_names name) e)
+outside : (V : Type 0) (blocks : List Block) (outer : Outer) (name : List ℕ) (up : ℕ) (o : Option Spot) → outside_spot outer name ≡ o → Found {V = V} blocks outer name up [] o
+outside V blocks outer name up (Some (spot.Frame u slot)) e = absurd (never (prelude_has outer.names name) (has_name (outermost_names outer.dialect) name) e)
   where
     never : (a b : Bool) → (if a then Some spot.Prelude else if b then Some spot.Outermost else None) ≡ Some (spot.Frame u slot) → ⊥
     never true b e = cc
     never false true e = cc
     never false false e = cc
-outside V blocks prelude name up (Some spot.Prelude) e = (refl, e)
-outside V blocks prelude name up (Some spot.Outermost) e = (refl, e)
-outside V blocks prelude name up None e = (refl, e)
+outside V blocks outer name up (Some spot.Prelude) e = (refl, e)
+outside V blocks outer name up (Some spot.Outermost) e = (refl, e)
+outside V blocks outer name up None e = (refl, e)
 
 -- after a row without the name
-further : {V : Type 0} (blocks : List Block) (prelude : Option Names) (name : List ℕ) (up : ℕ) (r : Row V) (rs : List (Row V)) (o : Option Spot)
-    → value_beside name (names_in blocks r.block) r.values ≡ None → Found blocks prelude name (up + 1) rs o → Found blocks prelude name up (r ∷ rs) o
-further blocks prelude name up r rs (Some (spot.Frame u slot)) none h = (suc h.0, h.1, (omega (arith, h.2)), h.3, ap (λ o. first_there o (nearest blocks name rs)) none ∙ h.4)
-further blocks prelude name up r rs (Some spot.Prelude) none h = (ap (λ o. first_there o (nearest blocks name rs)) none ∙ h.0, h.1)
-further blocks prelude name up r rs (Some spot.Outermost) none h = (ap (λ o. first_there o (nearest blocks name rs)) none ∙ h.0, h.1)
-further blocks prelude name up r rs None none h = (ap (λ o. first_there o (nearest blocks name rs)) none ∙ h.0, h.1)
+further : {V : Type 0} (blocks : List Block) (outer : Outer) (name : List ℕ) (up : ℕ) (r : Row V) (rs : List (Row V)) (o : Option Spot)
+    → value_beside name (names_in blocks r.block) r.values ≡ None → Found blocks outer name (up + 1) rs o → Found blocks outer name up (r ∷ rs) o
+further blocks outer name up r rs (Some (spot.Frame u slot)) none h = (suc h.0, h.1, (omega (arith, h.2)), h.3, ap (λ o. first_there o (nearest blocks name rs)) none ∙ h.4)
+further blocks outer name up r rs (Some spot.Prelude) none h = (ap (λ o. first_there o (nearest blocks name rs)) none ∙ h.0, h.1)
+further blocks outer name up r rs (Some spot.Outermost) none h = (ap (λ o. first_there o (nearest blocks name rs)) none ∙ h.0, h.1)
+further blocks outer name up r rs None none h = (ap (λ o. first_there o (nearest blocks name rs)) none ∙ h.0, h.1)
 
-row : {V : Type 0} (blocks : List Block) (prelude : Option Names) (name : List ℕ) (up : ℕ) (r : Row V) (rs : List (Row V)) (slot : Option ℕ) (o : Option Spot)
-    → Beside slot r.values (value_beside name (names_in blocks r.block) r.values) → Found blocks prelude name (up + 1) rs o → Found blocks prelude name up (r ∷ rs) (or_further up slot o)
-row blocks prelude name up r rs None o h k = further blocks prelude name up r rs o h k
-row blocks prelude name up r rs (Some i) o h k = (0, h.0, (omega arith), h.1, ap (λ o. first_there o (nearest blocks name rs)) h.2)
+row : {V : Type 0} (blocks : List Block) (outer : Outer) (name : List ℕ) (up : ℕ) (r : Row V) (rs : List (Row V)) (slot : Option ℕ) (o : Option Spot)
+    → Beside slot r.values (value_beside name (names_in blocks r.block) r.values) → Found blocks outer name (up + 1) rs o → Found blocks outer name up (r ∷ rs) (or_further up slot o)
+row blocks outer name up r rs None o h k = further blocks outer name up r rs o h k
+row blocks outer name up r rs (Some i) o h k = (0, h.0, (omega arith), h.1, ap (λ o. first_there o (nearest blocks name rs)) h.2)
 
-found : {V : Type 0} (blocks : List Block) (prelude : Option Names) (name : List ℕ) (up : ℕ) (chain : List ℕ) (rows : List (Row V)) → FitRows blocks chain rows
-    → Found blocks prelude name up rows (spot_in blocks prelude name up chain)
-found blocks prelude name up [] [] fit = outside _ blocks prelude name up (outside_spot prelude name) refl
-found blocks prelude name up [] (r ∷ rs) fit = absurd fit
-found blocks prelude name up (b ∷ bs) [] fit = absurd fit
-found blocks prelude name up (b ∷ bs) (r ∷ rs) fit =
-    row blocks prelude name up r rs (slot_of name (names_in blocks b)) (spot_in blocks prelude name (up + 1) bs)
+found : {V : Type 0} (blocks : List Block) (outer : Outer) (name : List ℕ) (up : ℕ) (chain : List ℕ) (rows : List (Row V)) → FitRows blocks chain rows
+    → Found blocks outer name up rows (spot_in blocks outer name up chain)
+found blocks outer name up [] [] fit = outside _ blocks outer name up (outside_spot outer name) refl
+found blocks outer name up [] (r ∷ rs) fit = absurd fit
+found blocks outer name up (b ∷ bs) [] fit = absurd fit
+found blocks outer name up (b ∷ bs) (r ∷ rs) fit =
+    row blocks outer name up r rs (slot_of name (names_in blocks b)) (spot_in blocks outer name (up + 1) bs)
     (subst (λ c. Beside (slot_of name (names_in blocks b)) r.values (value_beside name (names_in blocks c) r.values)) (sym fit.0) (beside name (names_in blocks b) r.values fit.1))
-    (found blocks prelude name (up + 1) bs rs fit.2)
+    (found blocks outer name (up + 1) bs rs fit.2)
 
 -- ---- outside of the rows
 
@@ -110,25 +110,25 @@ from_nowhere false true e = absurd (differ e)
     differ e = cc
 from_nowhere false false e = (refl, refl)
 
-in_frames : {V : Type 0} (blocks : List Block) (prelude : Option Names) (name : List ℕ) (rows : List (Row V)) (u slot : ℕ) → Found blocks prelude name 0 rows (Some (spot.Frame u slot))
+in_frames : {V : Type 0} (blocks : List Block) (outer : Outer) (name : List ℕ) (rows : List (Row V)) (u slot : ℕ) → Found blocks outer name 0 rows (Some (spot.Frame u slot))
     → (v : V) × (value_at u slot rows ≡ Some v) × (nearest blocks name rows ≡ Some v)
-in_frames blocks prelude name rows u slot h = (h.1, ap (λ k. value_at k slot rows) (omega (arith, h.2)) ∙ h.3, h.4)
+in_frames blocks outer name rows u slot h = (h.1, ap (λ k. value_at k slot rows) (omega (arith, h.2)) ∙ h.3, h.4)
 
-leads : {V : Type 0} (blocks : List Block) (prelude : Option Names) (name : List ℕ) (rows : List (Row V)) (o : Option Spot) → Found blocks prelude name 0 rows o → Leads V blocks prelude name rows o
-leads blocks prelude name rows o h = record {
-  in_rows = λ u slot e. in_frames blocks prelude name rows u slot (subst (λ x. Found blocks prelude name 0 rows x) e h);
+leads : {V : Type 0} (blocks : List Block) (outer : Outer) (name : List ℕ) (rows : List (Row V)) (o : Option Spot) → Found blocks outer name 0 rows o → Leads V blocks outer name rows o
+leads blocks outer name rows o h = record {
+  in_rows = λ u slot e. in_frames blocks outer name rows u slot (subst (λ x. Found blocks outer name 0 rows x) e h);
   in_prelude = λ e.
-      let k = subst (λ x. Found blocks prelude name 0 rows x) e h in
-      (k.0, from_prelude (prelude_has prelude name) (has_name outermost_names name) k.1);
+      let k = subst (λ x. Found blocks outer name 0 rows x) e h in
+      (k.0, from_prelude (prelude_has outer.names name) (has_name (outermost_names outer.dialect) name) k.1);
   outermost = λ e.
-      let k = subst (λ x. Found blocks prelude name 0 rows x) e h in
-      let both = from_outermost (prelude_has prelude name) (has_name outermost_names name) k.1 in
+      let k = subst (λ x. Found blocks outer name 0 rows x) e h in
+      let both = from_outermost (prelude_has outer.names name) (has_name (outermost_names outer.dialect) name) k.1 in
       (k.0, both.0, both.1);
   nowhere = λ e.
-      let k = subst (λ x. Found blocks prelude name 0 rows x) e h in
-      let both = from_nowhere (prelude_has prelude name) (has_name outermost_names name) k.1 in
+      let k = subst (λ x. Found blocks outer name 0 rows x) e h in
+      let both = from_nowhere (prelude_has outer.names name) (has_name (outermost_names outer.dialect) name) k.1 in
       (k.0, both.0, both.1);
 }
 
 pub spots_lead : (V : Type 0) → SpotsLead V
-spots_lead V blocks prelude name chain rows fit = leads blocks prelude name rows (spot_of blocks prelude name chain) (found blocks prelude name 0 chain rows fit)
+spots_lead V blocks outer name chain rows fit = leads blocks outer name rows (spot_of blocks outer name chain) (found blocks outer name 0 chain rows fit)

@@ -9,27 +9,26 @@ use Rattle.star_scope.specs.declared.chain.Scope.{Scope}
 use Rattle.star_scope.specs.declared.error.LocatedFault.{LocatedFault}
 use Rattle.star_scope.specs.declared.spot.Spot.{Spot}
 use Rattle.star_scope.specs.declared.uses.ResolvedNames.{ResolvedNames}
-use Rattle.star_scope.specs.Chains.{names_outside}
+use Rattle.star_scope.specs.Chains.{outer_shown}
 use Rattle.star_scope.specs.Faults.{first_from, comes_before}
-use Rattle.star_outline.specs.Names.{Names}
 use Rattle.star_outline.specs.declared.blocks.Block.{Block}
 use Rattle.star_scope.specs.ResolvedNames.{AllHaveSpots, HasSpot, Places}
-use Rattle.star_scope.specs.Places.{AllPlaced, IsPlaced, Spots, chain_length, spot_of, undefined, undefined_at, undefined_in}
+use Rattle.star_scope.specs.Places.{AllPlaced, IsPlaced, Outer, Spots, chain_length, spot_of, undefined, undefined_at, undefined_in}
 use Rattle.star_scope.specs.Spots.{Keeps, spot_at}
 use Rattle.star_scope.specs.Uses.{Defined, Named, Use, Within, all_uses, one_use}
 use Rattle.star_scope.proofs.Faults.{first_joined, first_none}
 
-has_still : (blocks : List Block) (prelude : Option Names) (old new : List (Option Spot)) (u : Use) → Keeps old new → HasSpot (spot_at old) blocks prelude u → HasSpot (spot_at new) blocks prelude u
-has_still blocks prelude old new (Named n chain) k h = (h.0, λ s e. k n.position.token s (h.1 s e))
-has_still blocks prelude old new (Defined number chain) k h = tt
+has_still : (blocks : List Block) (outer : Outer) (old new : List (Option Spot)) (u : Use) → Keeps old new → HasSpot (spot_at old) blocks outer u → HasSpot (spot_at new) blocks outer u
+has_still blocks outer old new (Named n chain) k h = (h.0, λ s e. k n.position.token s (h.1 s e))
+has_still blocks outer old new (Defined number chain) k h = tt
 
-have_still : (blocks : List Block) (prelude : Option Names) (old new : List (Option Spot)) (us : List Use) → Keeps old new → AllHaveSpots (spot_at old) blocks prelude us → AllHaveSpots (spot_at new) blocks prelude us
-have_still blocks prelude old new [] k h = tt
-have_still blocks prelude old new (u ∷ us) k h = (has_still blocks prelude old new u k h.0, have_still blocks prelude old new us k h.1)
+have_still : (blocks : List Block) (outer : Outer) (old new : List (Option Spot)) (us : List Use) → Keeps old new → AllHaveSpots (spot_at old) blocks outer us → AllHaveSpots (spot_at new) blocks outer us
+have_still blocks outer old new [] k h = tt
+have_still blocks outer old new (u ∷ us) k h = (has_still blocks outer old new u k h.0, have_still blocks outer old new us k h.1)
 
-have_both : (spots : Spots) (blocks : List Block) (prelude : Option Names) (us vs : List Use) → AllHaveSpots spots blocks prelude us → AllHaveSpots spots blocks prelude vs → AllHaveSpots spots blocks prelude (us ++ vs)
-have_both spots blocks prelude [] vs h k = k
-have_both spots blocks prelude (u ∷ us) vs h k = (h.0, have_both spots blocks prelude us vs h.1 k)
+have_both : (spots : Spots) (blocks : List Block) (outer : Outer) (us vs : List Use) → AllHaveSpots spots blocks outer us → AllHaveSpots spots blocks outer vs → AllHaveSpots spots blocks outer (us ++ vs)
+have_both spots blocks outer [] vs h k = k
+have_both spots blocks outer (u ∷ us) vs h k = (h.0, have_both spots blocks outer us vs h.1 k)
 
 -- nothing is placed
 pub place_none : (scope : Scope) (p : ResolvedNames) → Places scope [] p p
@@ -37,22 +36,22 @@ place_none scope p = record { kept = λ t s e. e; have = tt; found = sym (first_
 
 -- one name, with its spot
 pub place_one : (scope : Scope) (n : Name) (chain : List ℕ) (s : Spot) (old new : ResolvedNames)
-    → length chain ≤ chain_length → spot_of scope.blocks.now (names_outside scope.prelude) n.text chain ≡ Some s
+    → length chain ≤ chain_length → spot_of scope.blocks.now (outer_shown scope.prelude scope.dialect) n.text chain ≡ Some s
     → Keeps old.spots new.spots → spot_at new.spots n.position.token ≡ Some s → new.first ≡ old.first → Places scope (one_use n chain) old new
 place_one scope n chain s old new short is keeps put same = record {
   kept = keeps;
   have = ((short, λ t e. put ∙ sym is ∙ e), tt);
-  found = same ∙ sym (first_none old.first) ∙ ap (λ fs. first_from old.first fs) (sym (append-nil (undefined_at n (spot_of scope.blocks.now (names_outside scope.prelude) n.text chain)) ∙ ap (undefined_at n) is));
+  found = same ∙ sym (first_none old.first) ∙ ap (λ fs. first_from old.first fs) (sym (append-nil (undefined_at n (spot_of scope.blocks.now (outer_shown scope.prelude scope.dialect) n.text chain)) ∙ ap (undefined_at n) is));
 }
 
 -- one undefined name
 pub place_undefined : (scope : Scope) (n : Name) (chain : List ℕ) (old new : ResolvedNames)
-    → length chain ≤ chain_length → spot_of scope.blocks.now (names_outside scope.prelude) n.text chain ≡ None
+    → length chain ≤ chain_length → spot_of scope.blocks.now (outer_shown scope.prelude scope.dialect) n.text chain ≡ None
     → new.spots ≡ old.spots → new.first ≡ first_from old.first (undefined_at n None) → Places scope (one_use n chain) old new
 place_undefined scope n chain old new short is same found = record {
   kept = λ t s e. ap (λ spots. spot_at spots t) same ∙ e;
   have = ((short, λ t e. absurd (not_both t (sym is ∙ e))), tt);
-  found = found ∙ ap (λ fs. first_from old.first fs) (sym (append-nil (undefined_at n (spot_of scope.blocks.now (names_outside scope.prelude) n.text chain)) ∙ ap (undefined_at n) is));
+  found = found ∙ ap (λ fs. first_from old.first fs) (sym (append-nil (undefined_at n (spot_of scope.blocks.now (outer_shown scope.prelude scope.dialect) n.text chain)) ∙ ap (undefined_at n) is));
 }
   where
     not_both : (t : Spot) → None ≡ Some t → ⊥
@@ -66,12 +65,12 @@ place_defined scope number chain us a b p = record { kept = p.kept; have = (tt, 
 pub place_both : (scope : Scope) (us vs : List Use) (a b c : ResolvedNames) → Places scope us a b → Places scope vs b c → Places scope (us ++ vs) a c
 place_both scope us vs a b c x y =
     let blocks = scope.blocks.now in
-    let prelude = names_outside scope.prelude in
+    let outer = outer_shown scope.prelude scope.dialect in
     record {
       kept = λ t s e. y.kept t s (x.kept t s e);
-      have = have_both (spot_at c.spots) blocks prelude us vs (have_still blocks prelude b.spots c.spots us y.kept x.have) y.have;
-      found = y.found ∙ ap (λ o. first_from o (undefined blocks prelude vs)) x.found ∙ sym (first_joined a.first (undefined blocks prelude us) (undefined blocks prelude vs))
-          ∙ ap (λ fs. first_from a.first fs) (sym (flat_map-append (undefined_in blocks prelude) us vs));
+      have = have_both (spot_at c.spots) blocks outer us vs (have_still blocks outer b.spots c.spots us y.kept x.have) y.have;
+      found = y.found ∙ ap (λ o. first_from o (undefined blocks outer vs)) x.found ∙ sym (first_joined a.first (undefined blocks outer us) (undefined blocks outer vs))
+          ∙ ap (λ fs. first_from a.first fs) (sym (flat_map-append (undefined_in blocks outer) us vs));
     }
 
 -- some names and others, and then still others
@@ -117,21 +116,21 @@ unfolding first_from
 none_undefined [] vs e = (refl, e)
 none_undefined (f ∷ fs) vs e = absurd (found_stays (fs ++ vs) f e)
 
-one_placed : (spots : Spots) (blocks : List Block) (prelude : Option Names) (n : Name) (chain : List ℕ) (o : Option Spot) → spot_of blocks prelude n.text chain ≡ o
-    → undefined_at n o ≡ [] → HasSpot spots blocks prelude (Named n chain) → IsPlaced spots blocks prelude (Named n chain)
-one_placed spots blocks prelude n chain (Some s) is none h = (h.0, h.1 s is ∙ sym is)
-one_placed spots blocks prelude n chain None is none h = absurd (one_is_some none)
+one_placed : (spots : Spots) (blocks : List Block) (outer : Outer) (n : Name) (chain : List ℕ) (o : Option Spot) → spot_of blocks outer n.text chain ≡ o
+    → undefined_at n o ≡ [] → HasSpot spots blocks outer (Named n chain) → IsPlaced spots blocks outer (Named n chain)
+one_placed spots blocks outer n chain (Some s) is none h = (h.0, h.1 s is ∙ sym is)
+one_placed spots blocks outer n chain None is none h = absurd (one_is_some none)
   where
     one_is_some : {f : LocatedFault} → f ∷ [] ≡ [] → ⊥
     one_is_some e = cc
 
-is_placed : (spots : Spots) (blocks : List Block) (prelude : Option Names) (u : Use) → undefined_in blocks prelude u ≡ [] → HasSpot spots blocks prelude u → IsPlaced spots blocks prelude u
-is_placed spots blocks prelude (Named n chain) none h = one_placed spots blocks prelude n chain (spot_of blocks prelude n.text chain) refl none h
-is_placed spots blocks prelude (Defined number chain) none h = tt
+is_placed : (spots : Spots) (blocks : List Block) (outer : Outer) (u : Use) → undefined_in blocks outer u ≡ [] → HasSpot spots blocks outer u → IsPlaced spots blocks outer u
+is_placed spots blocks outer (Named n chain) none h = one_placed spots blocks outer n chain (spot_of blocks outer n.text chain) refl none h
+is_placed spots blocks outer (Defined number chain) none h = tt
 
-pub all_placed : (spots : Spots) (blocks : List Block) (prelude : Option Names) (us : List Use) → first_from None (undefined blocks prelude us) ≡ None
-    → AllHaveSpots spots blocks prelude us → AllPlaced spots blocks prelude us
-all_placed spots blocks prelude [] none h = tt
-all_placed spots blocks prelude (u ∷ us) none h =
-    let both = none_undefined (undefined_in blocks prelude u) (undefined blocks prelude us) none in
-    (is_placed spots blocks prelude u both.0 h.0, all_placed spots blocks prelude us both.1 h.1)
+pub all_placed : (spots : Spots) (blocks : List Block) (outer : Outer) (us : List Use) → first_from None (undefined blocks outer us) ≡ None
+    → AllHaveSpots spots blocks outer us → AllPlaced spots blocks outer us
+all_placed spots blocks outer [] none h = tt
+all_placed spots blocks outer (u ∷ us) none h =
+    let both = none_undefined (undefined_in blocks outer u) (undefined blocks outer us) none in
+    (is_placed spots blocks outer u both.0 h.0, all_placed spots blocks outer us both.1 h.1)

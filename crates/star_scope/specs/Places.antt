@@ -1,7 +1,9 @@
 -- The spot of a name in a chain of blocks, and the names that have none.
-use Rattle.std.specs.Prelude.{◌≡◌, ◌≤◌, ℕ, ◌+◌, Bool, true, false, not, ◌&&◌, List, [], ◌∷◌, length, Option, Some, None, if◌then◌else◌, codes, slice_get}
+use Rattle.std.specs.Prelude.{◌≡◌, ◌≤◌, ℕ, ◌+◌, Bool, true, false, not, ◌&&◌, List, [], ◌∷◌, ◌++◌, length, Option, Some, None, if◌then◌else◌, codes, slice_get}
 use Rattle.std.specs.List.{flat_map}
 use Rattle.std.specs.Option.{option_and_then}
+use Rattle.star_dialect.specs.declared.Dialect.{Dialect}
+use Rattle.star_dialect.specs.declared.Dialect.TheVariants as dialect
 use Rattle.star_tree.specs.declared.tree.Name.{Name}
 use Rattle.star_scope.specs.declared.error.ScopeFault.TheVariants as fault
 use Rattle.star_scope.specs.declared.error.LocatedFault.{LocatedFault}
@@ -19,13 +21,29 @@ use Rattle.star_scope.specs.Uses.{Use, Named, Defined}
 abbrev pub chain_length : ℕ
 chain_length = 102
 
--- the names of the outermost block
-abbrev pub outermost_names : Names
-outermost_names =
+-- the names of the outermost block of the core
+abbrev pub core_names : Names
+core_names =
     codes "None" ∷ codes "True" ∷ codes "False" ∷ codes "abs" ∷ codes "all" ∷ codes "any" ∷ codes "bool" ∷ codes "dict"
     ∷ codes "enumerate" ∷ codes "fail" ∷ codes "int" ∷ codes "len" ∷ codes "list" ∷ codes "max" ∷ codes "min"
     ∷ codes "print" ∷ codes "range" ∷ codes "repr" ∷ codes "reversed" ∷ codes "sorted" ∷ codes "str" ∷ codes "tuple"
     ∷ codes "type" ∷ codes "zip" ∷ []
+
+-- the further names of the extended language
+abbrev pub further_names : Names
+further_names =
+    codes "chr" ∷ codes "dir" ∷ codes "getattr" ∷ codes "hasattr" ∷ codes "ord" ∷ codes "struct" ∷ []
+
+-- the names of the outermost block of a dialect
+abbrev pub outermost_names : Dialect → Names
+outermost_names dialect.Core = core_names
+outermost_names dialect.Extended = core_names ++ further_names
+
+-- what is outside of a file: the names of the prelude's block, if the file sees a prelude, and the dialect, which has
+-- the names of the outermost block
+pub record Outer : Type 0 where
+  pub names : Option Names
+  pub dialect : Dialect
 
 -- whether the prelude's block, whose names these are, has a name that other files see: one that is not private
 abbrev pub prelude_has : Option Names → List ℕ → Bool
@@ -33,10 +51,10 @@ prelude_has None name = false
 prelude_has (Some names) name = not (is_private name) && has_name names name
 
 -- the spot of a name outside of the file: in the prelude, else in the outermost block
-abbrev pub outside_spot : Option Names → List ℕ → Option Spot
-outside_spot prelude name =
-    if prelude_has prelude name then Some spot.Prelude else if has_name outermost_names name then Some spot.Outermost
-    else None
+abbrev pub outside_spot : Outer → List ℕ → Option Spot
+outside_spot outer name =
+    if prelude_has outer.names name then Some spot.Prelude
+    else if has_name (outermost_names outer.dialect) name then Some spot.Outermost else None
 
 abbrev pub or_further : ℕ → Option ℕ → Option Spot → Option Spot
 or_further up (Some slot) further = Some (spot.Frame up slot)
@@ -44,39 +62,39 @@ or_further up None further = further
 
 -- the spot of a name in a chain of blocks, the innermost first: in the first block that binds it, else outside of the
 -- file
-abbrev pub spot_in : List Block → Option Names → List ℕ → ℕ → List ℕ → Option Spot
-spot_in blocks prelude name up [] = outside_spot prelude name
-spot_in blocks prelude name up (b ∷ bs) =
-    or_further up (slot_of name (names_in blocks b)) (spot_in blocks prelude name (up + 1) bs)
+abbrev pub spot_in : List Block → Outer → List ℕ → ℕ → List ℕ → Option Spot
+spot_in blocks outer name up [] = outside_spot outer name
+spot_in blocks outer name up (b ∷ bs) =
+    or_further up (slot_of name (names_in blocks b)) (spot_in blocks outer name (up + 1) bs)
 
-abbrev pub spot_of : List Block → Option Names → List ℕ → List ℕ → Option Spot
-spot_of blocks prelude name chain = spot_in blocks prelude name 0 chain
+abbrev pub spot_of : List Block → Outer → List ℕ → List ℕ → Option Spot
+spot_of blocks outer name chain = spot_in blocks outer name 0 chain
 
 -- a name that no block around it, no prelude and no built-in binds is undefined
 abbrev pub undefined_at : Name → Option Spot → List LocatedFault
 undefined_at n (Some s) = []
 undefined_at n None = at n.position (λ line. fault.Undefined line) ∷ []
 
-abbrev pub undefined_in : List Block → Option Names → Use → List LocatedFault
-undefined_in blocks prelude (Named n chain) = undefined_at n (spot_of blocks prelude n.text chain)
-undefined_in blocks prelude (Defined number chain) = []
+abbrev pub undefined_in : List Block → Outer → Use → List LocatedFault
+undefined_in blocks outer (Named n chain) = undefined_at n (spot_of blocks outer n.text chain)
+undefined_in blocks outer (Defined number chain) = []
 
-abbrev pub undefined : List Block → Option Names → List Use → List LocatedFault
-undefined blocks prelude us = flat_map (undefined_in blocks prelude) us
+abbrev pub undefined : List Block → Outer → List Use → List LocatedFault
+undefined blocks outer us = flat_map (undefined_in blocks outer) us
 
 -- the spots of tokens
 abbrev pub Spots : Type 0
 Spots = ℕ → Option Spot
 
 -- a use of a name is in no more blocks than a chain may have, and its token has its spot
-abbrev pub IsPlaced : Spots → List Block → Option Names → Use → Type 0
-IsPlaced spots blocks prelude (Named n chain) =
-    (length chain ≤ chain_length) × (spots n.position.token ≡ spot_of blocks prelude n.text chain)
-IsPlaced spots blocks prelude (Defined number chain) = Unit {0}
+abbrev pub IsPlaced : Spots → List Block → Outer → Use → Type 0
+IsPlaced spots blocks outer (Named n chain) =
+    (length chain ≤ chain_length) × (spots n.position.token ≡ spot_of blocks outer n.text chain)
+IsPlaced spots blocks outer (Defined number chain) = Unit {0}
 
-abbrev pub AllPlaced : Spots → List Block → Option Names → List Use → Type 0
-AllPlaced spots blocks prelude [] = Unit {0}
-AllPlaced spots blocks prelude (u ∷ us) = IsPlaced spots blocks prelude u × AllPlaced spots blocks prelude us
+abbrev pub AllPlaced : Spots → List Block → Outer → List Use → Type 0
+AllPlaced spots blocks outer [] = Unit {0}
+AllPlaced spots blocks outer (u ∷ us) = IsPlaced spots blocks outer u × AllPlaced spots blocks outer us
 
 -- ---- the use of a spot: rows of values, one for each block of a chain
 
@@ -115,19 +133,19 @@ value_at up slot rows = option_and_then (λ r. slice_get r.values slot) (slice_g
 -- the value that the spot of a name leads to: the value of the name in the nearest row that has it. It leads outside of
 -- the rows only if no row has the name, and to the outermost block only if the prelude lacks it too. A name without a
 -- spot is nowhere
-pub record Leads (V : Type 0) (blocks : List Block) (prelude : Option Names) (name : List ℕ) (rows : List (Row V))
+pub record Leads (V : Type 0) (blocks : List Block) (outer : Outer) (name : List ℕ) (rows : List (Row V))
     (s : Option Spot) : Type 0 where
   pub in_rows : (up slot : ℕ) → s ≡ Some (spot.Frame up slot) → (v : V) × (value_at up slot rows ≡ Some v)
       × (nearest blocks name rows ≡ Some v)
-  pub in_prelude : s ≡ Some spot.Prelude → (nearest blocks name rows ≡ None) × (prelude_has prelude name ≡ true)
-  pub outermost : s ≡ Some spot.Outermost → (nearest blocks name rows ≡ None) × (prelude_has prelude name ≡ false)
-      × (has_name outermost_names name ≡ true)
-  pub nowhere : s ≡ None → (nearest blocks name rows ≡ None) × (prelude_has prelude name ≡ false)
-      × (has_name outermost_names name ≡ false)
+  pub in_prelude : s ≡ Some spot.Prelude → (nearest blocks name rows ≡ None) × (prelude_has outer.names name ≡ true)
+  pub outermost : s ≡ Some spot.Outermost → (nearest blocks name rows ≡ None) × (prelude_has outer.names name ≡ false)
+      × (has_name (outermost_names outer.dialect) name ≡ true)
+  pub nowhere : s ≡ None → (nearest blocks name rows ≡ None) × (prelude_has outer.names name ≡ false)
+      × (has_name (outermost_names outer.dialect) name ≡ false)
 
 -- the law of spots: they lead to the right values in all rows that fit
 abbrev pub SpotsLead : Type 0 → Type 0
 SpotsLead V =
-    (blocks : List Block) (prelude : Option Names) (name : List ℕ) (chain : List ℕ) (rows : List (Row V))
+    (blocks : List Block) (outer : Outer) (name : List ℕ) (chain : List ℕ) (rows : List (Row V))
     → FitRows blocks chain rows
-    → Leads V blocks prelude name rows (spot_of blocks prelude name chain)
+    → Leads V blocks outer name rows (spot_of blocks outer name chain)

@@ -1,12 +1,13 @@
 //! The chain of blocks around a part of a file, the innermost first. A name is looked up along it.
 
 ghost use Rattle.std.specs.Prelude.{◌≡◌, ◌≤◌, ◌∷◌, [], ◌+◌, length, map, IfOk};
-ghost use Rattle.star_scope.specs.Chains.{names_outside};
+ghost use Rattle.star_scope.specs.Chains.{names_outside, outer_shown};
 ghost use Rattle.star_outline.specs.Names.{has_name};
 ghost use Rattle.star_scope.specs.Places.{chain_length, outermost_names, outside_spot, prelude_has, spot_of};
 
 use crate::loads::is_private;
 use crate::spot::Spot;
+use star_dialect::Dialect;
 use star_outline::binders::Bound;
 use star_outline::blocks::BlockNames;
 use std::alloc::AllocError;
@@ -41,11 +42,13 @@ impl<'c> Model for Chain<'c> {
     ghost invariant = { λ c. (length_of (numbers c.link) ≡ c.length) × (c.length ≤ chain_length) };
 }
 
-/// The binders of a name: the blocks of the file and, if there is a prelude, the names of the prelude's block.
+/// The binders of a name: the blocks of the file, the names of the prelude's block, if there is one, and the outermost
+/// block of a dialect.
 #[derive(Clone, Copy)]
 pub(crate) struct Scope<'s, 't> {
     pub(crate) blocks: &'s Bound<'s, 't>,
     pub(crate) prelude: Option<&'s BlockNames<'t>>,
+    pub(crate) dialect: Dialect,
 }
 
 fn prelude_has(prelude: Option<&BlockNames<'_>>, name: &str) -> bool
@@ -57,7 +60,7 @@ fn prelude_has(prelude: Option<&BlockNames<'_>>, name: &str) -> bool
     }
 }
 
-/// The names of the outermost block.
+/// The names of the outermost block of the core.
 const OUTERMOST: [&str; 24] = [
     "None",
     "True",
@@ -85,6 +88,9 @@ const OUTERMOST: [&str; 24] = [
     "zip",
 ];
 
+/// The further names of the outermost block of the extended language.
+const FURTHER: [&str; 6] = ["chr", "dir", "getattr", "hasattr", "ord", "struct"];
+
 fn is_among(mut names: &[&str], name: &str) -> bool
     ensures { result ≡ has_name (map (λ n. n.now) names.entry.now) name.now }
 {
@@ -97,19 +103,22 @@ fn is_among(mut names: &[&str], name: &str) -> bool
     false
 }
 
-fn is_outermost(name: &str) -> bool
-    ensures { result ≡ has_name outermost_names name.now }
+fn is_outermost(dialect: Dialect, name: &str) -> bool
+    ensures { result ≡ has_name (outermost_names dialect) name.now }
 {
-    is_among(&OUTERMOST, name)
+    match dialect {
+        Dialect::Core => is_among(&OUTERMOST, name),
+        Dialect::Extended => is_among(&OUTERMOST, name) || is_among(&FURTHER, name),
+    }
 }
 
 /// The spot of a name outside of the file; `None` if neither the prelude nor the outermost block has it.
-fn outside_spot(prelude: Option<&BlockNames<'_>>, name: &str) -> Option<Spot>
-    ensures { result ≡ outside_spot (names_outside prelude.entry) name.now }
+fn outside_spot(prelude: Option<&BlockNames<'_>>, dialect: Dialect, name: &str) -> Option<Spot>
+    ensures { result ≡ outside_spot (outer_shown prelude.entry dialect) name.now }
 {
     if prelude_has(prelude, name) {
         Some(Spot::Prelude)
-    } else if is_outermost(name) {
+    } else if is_outermost(dialect, name) {
         Some(Spot::Outermost)
     } else {
         None
@@ -146,7 +155,8 @@ impl<'c> Chain<'c> {
 
     /// The spot of a name: in the first block that binds it, else outside of the file. `None` if the name is undefined.
     pub(crate) fn spot_of(&self, scope: &Scope<'_, '_>, name: &str) -> Option<Spot>
-        ensures spot { result ≡ spot_of scope.now.blocks.now (names_outside scope.now.prelude) name.now self.now }
+        ensures spot { result ≡ spot_of scope.now.blocks.now (outer_shown scope.now.prelude scope.now.dialect)
+            name.now self.now }
         ensures short { length self.now ≤ chain_length }
     {
         let binders = scope.blocks.binders(name);
@@ -161,7 +171,7 @@ impl<'c> Chain<'c> {
         }
         match scope.blocks.slot(0, name) {
             Some(slot) => Some(Spot::Frame { up, slot }),
-            None => outside_spot(scope.prelude, name),
+            None => outside_spot(scope.prelude, scope.dialect, name),
         }
     }
 }

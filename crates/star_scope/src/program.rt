@@ -9,7 +9,7 @@ ghost use Rattle.star_scope.specs.Spots.{spot_at};
 ghost use Rattle.star_scope.specs.Faults.{first, first_of};
 ghost use Rattle.star_outline.specs.Names.{once, slot_of, with_names};
 ghost use Rattle.star_outline.specs.Outlines.{file_names, loaded_by, names_in, outline};
-ghost use Rattle.star_scope.specs.Resolve.{Resolves, first_fault, prelude_names, repeated, seen_by, standing_in};
+ghost use Rattle.star_scope.specs.Resolve.{Resolves, first_fault, outside_seen, prelude_names, repeated, seen_by, standing_in};
 ghost use Rattle.star_outline.specs.Syntax.{form_of};
 
 use crate::conflicts::{block_conflict, repeated_parameter};
@@ -19,6 +19,7 @@ use crate::placement::{OF_FILE, OF_PRELUDE, StatementContext, in_statements};
 use crate::spot::Spot;
 use crate::spots::Spots;
 use crate::uses::resolve_names;
+use star_dialect::Dialect;
 use star_label::files::Files;
 use star_outline::blocks::{BlockNames, Blocks};
 use star_outline::names::{add_loaded, add_statements, load_statements};
@@ -274,26 +275,27 @@ impl<'t> Program<'t> {
     }
 }
 
-/// The program of the file `n` with this tree, or its first static fault: the one whose token comes first; at one
-/// token, the one whose kind has the lower number (`docs/LANGUAGE.md`, "Scopes and static faults"). Every file but the
-/// prelude itself sees the prelude. In the prelude every load is misplaced. `Memory` if an allocation fails, and for a
-/// tree that no text has: if two definitions, or two names with different spots, have one token, or more than 102
-/// blocks are nested.
+/// The program of the file `n` with this tree in a dialect, or its first static fault: the one whose token comes first;
+/// at one token, the one whose kind has the lower number (`docs/LANGUAGE.md`, "Scopes and static faults"). Every file
+/// but the prelude itself sees the prelude. In the prelude every load is misplaced. `Memory` if an allocation fails,
+/// and for a tree that no text has: if two definitions, or two names with different spots, have one token, or more than
+/// 102 blocks are nested.
 pub fn resolve<'t>(
     alloc: Global,
     files: &Files,
     n: usize,
     tree: &'t Tree,
     prelude: Option<&Prelude<'t>>,
+    dialect: Dialect,
 ) -> Result<Program<'t>, ScopeFault>
     requires { n < length files.now }
-    ensures { Resolves files.now n (option_copied prelude.entry) tree.now.statements result }
+    ensures { Resolves files.now n (outside_seen prelude.entry dialect) tree.now.statements result }
 {
     let statements = tree.statements.as_slice();
     let outer = seen_by(n, prelude);
     let loads = find_loads(alloc, files, n, file_of(outer), statements)?;
     let found = outline_of(alloc, statements)?;
-    let placed = resolve_names(alloc, &found.blocks, names_of(outer), statements)?;
+    let placed = resolve_names(alloc, &found.blocks, names_of(outer), dialect, statements)?;
     let first = first_fault(
         alloc,
         standing_in(n, prelude),

@@ -4,6 +4,7 @@ ghost use Rattle.std.specs.Prelude.{◌≡◌, ◌∷◌, ◌++◌, [], IfOk, If
 ghost use Rattle.std.specs.Option.{option_map};
 ghost use Rattle.star_scope.specs.declared.error.ScopeFault.TheVariants as fault;
 ghost use Rattle.star_scope.specs.declared.error.ScopeFault.TheVariants.{Memory};
+ghost use Rattle.star_scope.specs.Chains.{outer_shown};
 ghost use Rattle.star_scope.specs.Faults.{at, first_from};
 ghost use Rattle.star_scope.specs.ResolvedNames.{HasFirst, HasSpots, Places};
 ghost use Rattle.star_scope.specs.Uses.{all_uses, default_uses, in_argument, in_arm, in_clause, in_clauses, in_entry, in_expression, in_form, in_returned, in_statement, in_target, loaded_use, maybe_use, one_use, parameter_name_uses};
@@ -12,6 +13,7 @@ use crate::chain::{Chain, Scope};
 use crate::error::{LocatedFault, ScopeFault, earlier};
 use crate::spots::Spots;
 use sqlite_items::Boxed;
+use star_dialect::Dialect;
 use star_outline::binders::Bound;
 use star_outline::blocks::{BlockNames, Blocks};
 use star_tree::tree::{
@@ -542,8 +544,10 @@ fn place_all(
     scope: &Scope<'_, '_>,
     statements: &[Statement],
 ) -> Result<ResolvedNames, AllocError>
-    ensures first { IfOk result (λ placed. HasFirst scope.now.blocks.now scope.now.prelude statements.now placed) }
-    ensures spots { IfOk result (λ placed. HasSpots scope.now.blocks.now scope.now.prelude statements.now placed) }
+    ensures first { IfOk result (λ placed. HasFirst scope.now.blocks.now
+        (outer_shown scope.now.prelude scope.now.dialect) statements.now placed) }
+    ensures spots { IfOk result (λ placed. HasSpots scope.now.blocks.now
+        (outer_shown scope.now.prelude scope.now.dialect) statements.now placed) }
 {
     let mut placed = ResolvedNames {
         spots: Spots::new(alloc)?,
@@ -553,9 +557,9 @@ fn place_all(
     Ok(placed)
 }
 
-/// The spots of all names of a file with these statements and blocks and, if there is one, this prelude's block. Also
-/// the first undefined name: one that no block around it, no prelude and no built-in binds (`docs/LANGUAGE.md`, "Scopes
-/// and static faults").
+/// The spots of all names of a file with these statements and blocks and, if there is one, this prelude's block, in a
+/// dialect. Also the first undefined name: one that no block around it, no prelude and no built-in binds
+/// (`docs/LANGUAGE.md`, "Scopes and static faults").
 ///
 /// `Memory` if an allocation fails, and for a tree that no text has: if two names with different spots have one token,
 /// or more than 102 blocks are nested. No other error comes.
@@ -563,16 +567,20 @@ pub fn resolve_names<'s, 't>(
     alloc: Global,
     blocks: &'s Blocks<'t>,
     prelude: Option<&'s BlockNames<'t>>,
+    dialect: Dialect,
     statements: &[Statement],
 ) -> Result<ResolvedNames, ScopeFault>
-    ensures first { IfOk result (λ placed. HasFirst blocks.now prelude.entry statements.now placed) }
-    ensures spots { IfOk result (λ placed. HasSpots blocks.now prelude.entry statements.now placed) }
+    ensures first { IfOk result
+        (λ placed. HasFirst blocks.now (outer_shown prelude.entry dialect) statements.now placed) }
+    ensures spots { IfOk result
+        (λ placed. HasSpots blocks.now (outer_shown prelude.entry dialect) statements.now placed) }
     ensures memory { IfErr result (λ e. e ≡ Memory) }
 {
     let bound = Bound::of(alloc, blocks)?;
     let scope = Scope {
         blocks: &bound,
         prelude,
+        dialect,
     };
     let mut placed = place_all(alloc, &scope, statements)?;
     placed.spots.settle();

@@ -17,9 +17,9 @@ use Rattle.star_serve.specs.Trace.{Traces}
 use Rattle.star_serve.proofs.Traced.{Adds-nothing}
 
 -- a fact of each plan that has these readings is a fact of a plan of the files
-pub checked_in : (files : List File) (roots : List ℕ) (prelude : Option ℕ) (row : Row) (only : Bool) (text : List ℕ) (ok : Bool) → IsReadOf files roots prelude row
-    → ((plan : Plan) → IsPlanOf files plan → readings row ≡ plan.reads → plan.roots ≡ roots → IsCheckText only files plan text × IsCheckAnswer plan ok) → (mode : Mode) → InPlanOf files roots prelude mode (λ plan. IsOutput (Check only) files plan text ok)
-checked_in files roots prelude row only text ok (block, prelude_is, rows) each mode =
+pub checked_in : (files : List File) (roots : List ℕ) (prelude : Option ℕ) (mode : Mode) (row : Row) (only : Bool) (text : List ℕ) (ok : Bool) → IsReadOf files roots prelude mode.dialect row
+    → ((plan : Plan) → IsPlanOf files plan → readings row ≡ plan.reads → plan.roots ≡ roots → IsCheckText only files plan text × IsCheckAnswer plan ok) → InPlanOf files roots prelude mode (λ plan. IsOutput (Check only) files plan text ok)
+checked_in files roots prelude mode row only text ok (block, prelude_is, rows) each =
     let plan : Plan = record { roots = roots; prelude = prelude; mode = mode; reads = readings row } in
     let planned : IsPlanOf files plan = planned_so files block row plan refl prelude_is rows in
     (plan, planned, refl, refl, refl, each plan planned refl refl)

@@ -2,6 +2,7 @@
 use Rattle.std.proofs.Common.{◌≡◌, ◌<◌, ℕ, Bool, true, false, List, [], Option, length, map, sym, subst, Result, Ok, Err}
 use Rattle.std.specs.Prelude.{IfOk}
 use Rattle.std.specs.List.{All}
+use Rattle.star_dialect.specs.declared.Dialect.{Dialect}
 use Rattle.star_dialect.specs.declared.Mode.{Mode}
 use Rattle.star_label.specs.Files.{File}
 use Rattle.star_outcome.specs.Kept.{AllGood, AreModules, AreModulesOf, KeptView, RunView}
@@ -35,27 +36,27 @@ pub lead_files : (files : List File) (row : Row) → length row ≡ length files
 lead_files files row size within n = subst (λ k. All (λ l. l.file < k) (loads_at row n)) size (within n)
 
 -- the readings of files have a place for each file, and loads within the files
-pub row_size : (files : List File) (roots : List ℕ) (prelude : Option ℕ) (row : Row) → IsReadOf files roots prelude row → length row ≡ length files
-row_size files roots prelude row (block, prelude_is, rows) = rows.sized
+pub row_size : (files : List File) (roots : List ℕ) (prelude : Option ℕ) (d : Dialect) (row : Row) → IsReadOf files roots prelude d row → length row ≡ length files
+row_size files roots prelude d row (block, prelude_is, rows) = rows.sized
 
-pub lead_within : (files : List File) (roots : List ℕ) (prelude : Option ℕ) (row : Row) → IsReadOf files roots prelude row → LeadWithin row
-lead_within files roots prelude row read n = subst (λ k. All (λ l. l.file < k) (loads_at row n)) (sym (row_size files roots prelude row read)) (lead_to_files files roots prelude row read n)
+pub lead_within : (files : List File) (roots : List ℕ) (prelude : Option ℕ) (d : Dialect) (row : Row) → IsReadOf files roots prelude d row → LeadWithin row
+lead_within files roots prelude d row read n = subst (λ k. All (λ l. l.file < k) (loads_at row n)) (sym (row_size files roots prelude d row read)) (lead_to_files files roots prelude d row read n)
 
 -- the answer, by the modules of a run
 pub answer_of : (plan : Plan) (ks : List KeptView) (ok : Bool) → AreModules plan ks → (ok ≡ true → AllGood ks) → (ok ≡ false → AllGood ks → ⊥) → IsAnswer plan ok
 answer_of plan ks ok are good bad = (ks, are, good, bad)
 
 -- a fact of each plan that has this run is a fact of the plan of the files
-pub in_plan_of : (files : List File) (roots : List ℕ) (prelude : Option ℕ) (mode : Mode) (row : Row) (run : RunView) (P : Plan → Type 0) → run.begun ≡ length run.kept → AreModulesOf files roots prelude mode run.kept → IsReadOf files roots prelude row
+pub in_plan_of : (files : List File) (roots : List ℕ) (prelude : Option ℕ) (mode : Mode) (row : Row) (run : RunView) (P : Plan → Type 0) → run.begun ≡ length run.kept → AreModulesOf files roots prelude mode run.kept → IsReadOf files roots prelude mode.dialect row
     → ((plan : Plan) → IsRunOf files roots row run plan → P plan) → InPlanOf files roots prelude mode P
 in_plan_of files roots prelude mode row run P begun (plan, planned, of_roots, of_prelude, of_mode, are) read each =
-    (plan, planned, of_roots, of_prelude, of_mode, each plan (record { planned = planned; roots_are = of_roots; read = subst (λ p. IsReadOf files roots p row) (sym of_prelude) read; modules = are; begun = begun }))
+    (plan, planned, of_roots, of_prelude, of_mode, each plan (record { planned = planned; roots_are = of_roots; read = subst (λ (m : Mode). IsReadOf files roots plan.prelude m.dialect row) (sym of_mode) (subst (λ p. IsReadOf files roots p mode.dialect row) (sym of_prelude) read); modules = are; begun = begun }))
 
 -- .. where the run was of roots that are the same
-pub in_plan_of_same : (files : List File) (roots given : List ℕ) (prelude : Option ℕ) (mode : Mode) (row : Row) (run : RunView) (P : Plan → Type 0) → given ≡ roots → run.begun ≡ length run.kept → AreModulesOf files given prelude mode run.kept → IsReadOf files given prelude row
+pub in_plan_of_same : (files : List File) (roots given : List ℕ) (prelude : Option ℕ) (mode : Mode) (row : Row) (run : RunView) (P : Plan → Type 0) → given ≡ roots → run.begun ≡ length run.kept → AreModulesOf files given prelude mode run.kept → IsReadOf files given prelude mode.dialect row
     → ((plan : Plan) → IsRunOf files roots row run plan → P plan) → InPlanOf files roots prelude mode P
 in_plan_of_same files roots given prelude mode row run P same begun are read =
-    in_plan_of files roots prelude mode row run P begun (subst (λ rs. AreModulesOf files rs prelude mode run.kept) same are) (subst (λ rs. IsReadOf files rs prelude row) same read)
+    in_plan_of files roots prelude mode row run P begun (subst (λ rs. AreModulesOf files rs prelude mode run.kept) same are) (subst (λ rs. IsReadOf files rs prelude mode.dialect row) same read)
 
 none_said : (output : Output) (files : List File) (plan : Plan) (ok : Bool) (line : List ℕ) → IsSaid output files plan ok line → is_said output ok ≡ false → line ≡ []
 none_said (Report wanted) files plan ok line is none = is

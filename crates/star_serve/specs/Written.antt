@@ -13,7 +13,7 @@ use Rattle.star_report.specs.declared.wanted.Output.{Output}
 pub record IsRunOf (files : List File) (roots : List ℕ) (row : Row) (run : RunView) (plan : Plan) : Type 0 where
   pub planned : IsPlanOf files plan
   pub roots_are : plan.roots ≡ roots
-  pub read : IsReadOf files roots plan.prelude row
+  pub read : IsReadOf files roots plan.prelude plan.mode.dialect row
   pub modules : AreModules plan run.kept
   pub begun : run.begun ≡ length run.kept
 

@@ -19,7 +19,7 @@ use std::thread::Threads;
 /// Loads the roots from the files of a folder and writes the report, and to `errors` the trace and the message to a
 /// person, where these are wanted. It answers whether every module of the report is ok.
 ///
-/// The rules are in `docs/FOLDERS.md` and `docs/REPORT.md`: which files a folder has, the refusals in their order, and
+/// The rules are in `docs/USING.md`: which files a folder has, the refusals in their order, and
 /// the report.
 pub fn serve_dir<H: Threads + Wait + Sync, F: Folder, W: Sink, E: Sink>(
     rt: &H,

@@ -13,7 +13,7 @@
 //!
 //! Begin at `serve.rt`, from its end. The promise is the contract of `serve`: if it succeeds, it has read all input and
 //! written exactly the report of the definitions (`specs/Serve`). If it fails, the error is the first refusal of the
-//! rules, and nothing was written, unless the write failed. See `docs/REPORT.md`.
+//! rules, and nothing was written, unless the write failed. See `docs/USING.md`.
 #![tactic(auto)]
 
 pub mod dir;

@@ -73,7 +73,7 @@ fn reported_of<'t, H: Threads + Wait + Sync, W: Sink, E: Sink>(
 /// message to a person, where these are wanted. It answers whether every module of the report is ok. Only what is
 /// reached is looked up, and each text is parsed once.
 ///
-/// The rules are in `docs/FOLDERS.md` and `docs/REPORT.md`: which files are reached, the refusals in their order, and
+/// The rules are in `docs/USING.md`: which files are reached, the refusals in their order, and
 /// the report.
 pub fn serve_repo<H: Threads + Wait + Sync, F: Repo, W: Sink, E: Sink>(
     rt: &H,

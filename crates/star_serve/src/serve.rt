@@ -2,7 +2,6 @@
 
 ghost use Rattle.std.specs.Prelude.{false, ◌≡◌, ◌+◌, ◌<◌, ◌≤◌, ◌⊎◌, ℕ, All, None, length, string_bytes, IfOk, IfErr, IfSome};
 ghost use Rattle.star_bundle.specs.View.{asked_view};
-ghost use Rattle.star_dialect.specs.declared.Mode.{Mode as ModeView};
 ghost use Rattle.star_bundle.specs.Refusal.{reads_failed, writes_failed};
 ghost use Rattle.star_outcome.specs.GoodEnds.{AreGoodEndsOf, AreReachedEnds};
 ghost use Rattle.star_outcome.specs.Kept.{AreModulesOf};
@@ -25,13 +24,14 @@ use star_bundle::bundle::{AskedFor, asked_for};
 use star_bundle::error::ServeError;
 use star_check::check::{Checked, check};
 use star_check::verdict::Judged;
-use star_dialect::Mode;
-pub use star_explain::explain::Form;
+use star_dialect::{Dialect, Mode};
+pub use star_explain::explain::{Form, Style};
 use star_explain::explain::{explain, explain_check};
 use star_host::{
     Ballast, GoodEnd, Known, Parsed, Reads, Run, RunError, RunOptions, Texts, Trees, read_parsed,
     run_in,
 };
+use star_mistakes::statics::Sources;
 use star_outcome::memory::{Size, threads_for};
 pub use star_report::wanted::{Output, Wanted};
 use std::alloc::{AllocError, Global};
@@ -95,17 +95,20 @@ fn checked<'t, H: Threads + Wait + Sync>(
     job: &Job<'_, 't>,
     reads: &mut Reads<'t>,
     loaders: usize,
+    mode: Mode,
     only_roots: bool,
 ) -> Result<Checked, AllocError>
     requires parses { AreParsesOf job.now.asked.now.files job.now.parses.now }
-    requires reads { AreKnown job.now.asked.now.files job.now.asked.now.prelude reads.old.all.items }
+    requires reads { AreKnown job.now.asked.now.files job.now.asked.now.prelude mode.dialect
+        reads.old.all.items }
     requires roots { All (λ n. n < length job.now.asked.now.files) job.now.asked.now.roots.items }
     requires prelude { IfSome job.now.asked.now.prelude (λ n. n < length job.now.asked.now.files) }
-    ensures text { IfOk result (λ c. (mode : ModeView)
-        → IsOutputFor (output.Check only_roots) (asked_in job.now) mode c.text.items c.all_ok) }
+    ensures text { IfOk result (λ c.
+        IsOutputFor (output.Check only_roots) (asked_in job.now) mode c.text.items c.all_ok) }
     ensures read { let a = job.now.asked.now in IfOk result (λ _.
-        IsReadOf a.files a.roots.items a.prelude reads.new.all.items) }
-    ensures others { let a = job.now.asked.now in IfOk result (λ _. AreKnown a.files a.prelude reads.new.others.items) }
+        IsReadOf a.files a.roots.items a.prelude mode.dialect reads.new.all.items) }
+    ensures others { let a = job.now.asked.now in IfOk result (λ _.
+        AreKnown a.files a.prelude mode.dialect reads.new.others.items) }
 {
     let files = &job.asked.files;
     let roots = job.asked.roots.as_slice();
@@ -113,6 +116,7 @@ fn checked<'t, H: Threads + Wait + Sync>(
         files,
         trees: job.trees,
         parses: job.parses,
+        dialect: mode.dialect,
     };
     let before = mem::replace(reads, Reads::new(alloc));
     let read = read_parsed(
@@ -140,7 +144,8 @@ fn answered<'t, H: Threads + Wait + Sync>(
     options: &Options,
 ) -> Result<Answer, ServeError>
     requires parses { AreParsesOf job.now.asked.now.files job.now.parses.now }
-    requires reads { AreKnown job.now.asked.now.files job.now.asked.now.prelude reads.old.all.items }
+    requires reads { AreKnown job.now.asked.now.files job.now.asked.now.prelude options.now.mode.dialect
+        reads.old.all.items }
     requires ends { let a = job.now.asked.now in
         AreGoodEndsOf a.files a.roots.items a.prelude options.now.mode ends.now }
     requires roots { All (λ n. n < length job.now.asked.now.files) job.now.asked.now.roots.items }
@@ -158,8 +163,9 @@ fn answered<'t, H: Threads + Wait + Sync>(
     ensures modules { let a = job.now.asked.now in IfOk result (λ answer.
         AreModulesOf a.files a.roots.items a.prelude options.now.mode answer.run.kept) }
     ensures read { let a = job.now.asked.now in IfOk result (λ _.
-        IsReadOf a.files a.roots.items a.prelude reads.new.all.items) }
-    ensures others { let a = job.now.asked.now in IfOk result (λ _. AreKnown a.files a.prelude reads.new.others.items) }
+        IsReadOf a.files a.roots.items a.prelude options.now.mode.dialect reads.new.all.items) }
+    ensures others { let a = job.now.asked.now in IfOk result (λ _.
+        AreKnown a.files a.prelude options.now.mode.dialect reads.new.others.items) }
 {
     let asked = job.asked;
     let files = &asked.files;
@@ -204,17 +210,27 @@ fn check_over<'t, H: Threads + Wait + Sync>(
     only_roots: bool,
 ) -> Result<Written, ServeError>
     requires parses { AreParsesOf job.now.asked.now.files job.now.parses.now }
-    requires reads { AreKnown job.now.asked.now.files job.now.asked.now.prelude reads.old.all.items }
+    requires reads { AreKnown job.now.asked.now.files job.now.asked.now.prelude options.now.mode.dialect
+        reads.old.all.items }
     requires roots { All (λ n. n < length job.now.asked.now.files) job.now.asked.now.roots.items }
     requires prelude { IfSome job.now.asked.now.prelude (λ n. n < length job.now.asked.now.files) }
     ensures kinds { IfErr result (λ e. (e ≡ ServeError.Memory) ⊎ (e ≡ ServeError.Unpublished)) }
     ensures text { IfOk result (λ w.
         IsOutputFor (output.Check only_roots) (asked_in job.now) options.now.mode w.text.items w.all_ok) }
     ensures read { let a = job.now.asked.now in IfOk result (λ _.
-        IsReadOf a.files a.roots.items a.prelude reads.new.all.items) }
-    ensures others { let a = job.now.asked.now in IfOk result (λ _. AreKnown a.files a.prelude reads.new.others.items) }
+        IsReadOf a.files a.roots.items a.prelude options.now.mode.dialect reads.new.all.items) }
+    ensures others { let a = job.now.asked.now in IfOk result (λ _.
+        AreKnown a.files a.prelude options.now.mode.dialect reads.new.others.items) }
 {
-    match checked(rt, alloc, job, reads, options.loaders, only_roots) {
+    match checked(
+        rt,
+        alloc,
+        job,
+        reads,
+        options.loaders,
+        options.mode,
+        only_roots,
+    ) {
         Ok(it) => {
             let Checked { text, all_ok, .. } = it;
             let said = String::new(alloc);
@@ -267,7 +283,8 @@ pub fn written_over<'t, H: Threads + Wait + Sync>(
     options: &Options,
 ) -> Result<Finished, ServeError>
     requires parses { AreParsesOf job.now.asked.now.files job.now.parses.now }
-    requires reads { AreKnown job.now.asked.now.files job.now.asked.now.prelude reads.old.all.items }
+    requires reads { AreKnown job.now.asked.now.files job.now.asked.now.prelude options.now.mode.dialect
+        reads.old.all.items }
     requires ends { let a = job.now.asked.now in
         AreGoodEndsOf a.files a.roots.items a.prelude options.now.mode ends.now }
     requires roots { All (λ n. n < length job.now.asked.now.files) job.now.asked.now.roots.items }
@@ -280,8 +297,9 @@ pub fn written_over<'t, H: Threads + Wait + Sync>(
     ensures ends { let a = job.now.asked.now in IfOk result (λ f.
         InPlanOf a.files a.roots.items a.prelude options.now.mode (λ p. AreReachedEnds p f.ends.items)) }
     ensures read { let a = job.now.asked.now in IfOk result (λ _.
-        IsReadOf a.files a.roots.items a.prelude reads.new.all.items) }
-    ensures others { let a = job.now.asked.now in IfOk result (λ _. AreKnown a.files a.prelude reads.new.others.items) }
+        IsReadOf a.files a.roots.items a.prelude options.now.mode.dialect reads.new.all.items) }
+    ensures others { let a = job.now.asked.now in IfOk result (λ _.
+        AreKnown a.files a.prelude options.now.mode.dialect reads.new.others.items) }
 {
     if let Output::Check { only_roots } = options.output {
         let written = check_over(rt, alloc, job, reads, options, only_roots)?;
@@ -316,6 +334,7 @@ fn write_explained<E: Sink>(
     asked: &AskedFor,
     reads: &Reads,
     run: &mut Run,
+    dialect: Dialect,
     form: Option<Form>,
 )
     ensures { form ≡ None → errors.new ≡ errors.old }
@@ -324,7 +343,8 @@ fn write_explained<E: Sink>(
         return;
     };
     let (files, roots) = (&asked.files, asked.roots.as_slice());
-    if let Ok(text) = explain(alloc, files, reads, run, roots, asked.prelude, form) {
+    let sources = Sources::new(alloc, files, asked.prelude, dialect);
+    if let Ok(text) = explain(sources, reads, run, roots, form) {
         let _ = errors.write(text.as_bytes());
     }
 }
@@ -337,6 +357,7 @@ fn write_judged<E: Sink>(
     asked: &AskedFor,
     reads: &Reads,
     judged: &[Judged],
+    dialect: Dialect,
     form: Option<Form>,
 )
     ensures { form ≡ None → errors.new ≡ errors.old }
@@ -345,7 +366,8 @@ fn write_judged<E: Sink>(
         return;
     };
     let (files, roots) = (&asked.files, asked.roots.as_slice());
-    if let Ok(text) = explain_check(alloc, files, reads, judged, roots, asked.prelude, form) {
+    let sources = Sources::new(alloc, files, asked.prelude, dialect);
+    if let Ok(text) = explain_check(sources, reads, judged, roots, form) {
         let _ = errors.write(text.as_bytes());
     }
 }
@@ -376,7 +398,15 @@ fn checked_over<'t, H: Threads + Wait + Sync, W: Sink, E: Sink>(
         judged,
         text,
         all_ok,
-    } = match checked(rt, alloc, job, &mut reads, options.loaders, only_roots) {
+    } = match checked(
+        rt,
+        alloc,
+        job,
+        &mut reads,
+        options.loaders,
+        options.mode,
+        only_roots,
+    ) {
         Ok(it) => it,
         Err(_) => return Err(ServeError::Memory),
     };
@@ -384,7 +414,16 @@ fn checked_over<'t, H: Threads + Wait + Sync, W: Sink, E: Sink>(
         return Err(ServeError::Write);
     }
     let judged = judged.as_slice();
-    write_judged(alloc, errors, job.asked, &reads, judged, options.explain);
+    let dialect = options.mode.dialect;
+    write_judged(
+        alloc,
+        errors,
+        job.asked,
+        &reads,
+        judged,
+        dialect,
+        options.explain,
+    );
     // The process ends next, and the system takes back all of its memory at once.
     mem::forget(reads);
     Ok(all_ok)
@@ -437,7 +476,16 @@ pub(crate) fn reported_over<'t, H: Threads + Wait + Sync, W: Sink, E: Sink>(
         run.refused(),
         options.trace,
     );
-    write_explained(alloc, errors, asked, &reads, &mut run, options.explain);
+    let dialect = options.mode.dialect;
+    write_explained(
+        alloc,
+        errors,
+        asked,
+        &reads,
+        &mut run,
+        dialect,
+        options.explain,
+    );
     // The process ends next, and the system takes back all of its memory at once.
     mem::forget(run);
     mem::forget(reads);
@@ -485,7 +533,7 @@ pub(crate) fn reported<H: Threads + Wait + Sync, W: Sink, E: Sink>(
 /// Reads a bundle, loads the roots and writes the report, and to `errors` the trace and the message to a person, where
 /// these are wanted. It answers whether every module of the report is ok.
 ///
-/// The rules are in `docs/REPORT.md`: what a bundle is, the refusals in their order, and the report.
+/// The rules are in `docs/USING.md`: what a bundle is, the refusals in their order, and the report.
 pub fn serve<H: Threads + Wait + Sync, R: Source, W: Sink, E: Sink>(
     rt: &H,
     alloc: Global,

@@ -61,6 +61,7 @@ fn run_over<H: Threads + Wait + Sync>(
     requires ends { AreEndsNow asked.now.files asked.now.prelude options.now.mode staying.old.outcomes.all.items }
     requires readings { AreReadings asked.now.files staying.old.readings }
     requires seen { staying.old.readings.prelude ≡ asked.now.prelude }
+    requires dialect { staying.old.readings.dialect ≡ options.now.mode.dialect }
     requires roots { All (λ n. n < length asked.now.files) asked.now.roots.items }
     requires prelude { IfSome asked.now.prelude (λ n. n < length asked.now.files) }
     requires loaders { (1 ≤ options.now.loaders) × (options.now.loaders ≤ 64) }
@@ -72,6 +73,7 @@ fn run_over<H: Threads + Wait + Sync>(
         AreOutcomes asked.now.files asked.now.prelude options.now.mode f.ends.items) }
     ensures readings { IfOk result (λ _. AreReadings asked.now.files staying.new.readings) }
     ensures seen { staying.new.readings.prelude ≡ staying.old.readings.prelude }
+    ensures dialect { staying.new.readings.dialect ≡ staying.old.readings.dialect }
     ensures parses { staying.new.parses ≡ staying.old.parses }
     ensures outcomes { staying.new.outcomes ≡ staying.old.outcomes }
     ensures former { staying.new.former ≡ staying.old.former }
@@ -184,6 +186,7 @@ fn report_of<H: Threads + Wait + Sync>(
     requires ends { AreEndsNow asked.now.files asked.now.prelude mode staying.old.outcomes.all.items }
     requires readings { AreReadings asked.now.files staying.old.readings }
     requires seen { staying.old.readings.prelude ≡ asked.now.prelude }
+    requires dialect { staying.old.readings.dialect ≡ mode.dialect }
     requires roots { All (λ n. n < length asked.now.files) asked.now.roots.items }
     requires prelude { IfSome asked.now.prelude (λ n. n < length asked.now.files) }
     requires loaders { (1 ≤ loaders) × (loaders ≤ 64) }
@@ -194,6 +197,7 @@ fn report_of<H: Threads + Wait + Sync>(
     ensures parses { IfOk result (λ _. AreKept asked.now.files staying.new.parses.all.items) }
     ensures readings { IfOk result (λ _. AreReadings asked.now.files staying.new.readings) }
     ensures seen { staying.new.readings.prelude ≡ staying.old.readings.prelude }
+    ensures dialect { staying.new.readings.dialect ≡ staying.old.readings.dialect }
     ensures outcomes { staying.new.outcomes ≡ staying.old.outcomes }
     ensures former { staying.new.former ≡ staying.old.former }
     ensures same { staying.new.same ≡ staying.old.same }
@@ -246,6 +250,7 @@ fn run_changed<H: Threads + Wait + Sync>(
     requires ends { AreEndsNow asked.old.files asked.old.prelude mode staying.old.outcomes.all.items }
     requires readings { AreReadings asked.old.files staying.old.readings }
     requires seen { staying.old.readings.prelude ≡ asked.old.prelude }
+    requires dialect { staying.old.readings.dialect ≡ mode.dialect }
     requires prelude { IfSome asked.old.prelude (λ n. n < length asked.old.files) }
     requires loaders { (1 ≤ loaders) × (loaders ≤ 64) }
     requires steps { (1 ≤ mode.steps) × (mode.steps ≤ 100000000) }
@@ -255,6 +260,7 @@ fn run_changed<H: Threads + Wait + Sync>(
     ensures parses { IfOk result (λ _. AreKept asked.old.files staying.new.parses.all.items) }
     ensures readings { IfOk result (λ _. AreReadings asked.old.files staying.new.readings) }
     ensures seen { staying.new.readings.prelude ≡ staying.old.readings.prelude }
+    ensures dialect { staying.new.readings.dialect ≡ staying.old.readings.dialect }
     ensures outcomes { staying.new.outcomes ≡ staying.old.outcomes }
     ensures former { staying.new.former ≡ staying.old.former }
     ensures same { staying.new.same ≡ staying.old.same }
@@ -306,6 +312,7 @@ fn keep_lasting<H: Threads + Wait + Sync>(
     requires same { AreSame before.now asked.old.files staying.old.same.items }
     requires readings { AreReadings asked.old.files staying.old.readings }
     requires seen { staying.old.readings.prelude ≡ asked.old.prelude }
+    requires dialect { staying.old.readings.dialect ≡ mode.dialect }
     ensures asked { asked.new ≡ asked.old }
     ensures kinds { IfErr result (λ e. (e ≡ ServeError.Memory) ⊎ (e ≡ ServeError.Unpublished)) }
     ensures ends { OnOk result
@@ -314,6 +321,7 @@ fn keep_lasting<H: Threads + Wait + Sync>(
     ensures parses { OnOk result (AreKept asked.old.files staying.new.parses.all.items) }
     ensures readings { OnOk result (AreReadings asked.old.files staying.new.readings) }
     ensures seen { staying.new.readings.prelude ≡ staying.old.readings.prelude }
+    ensures dialect { staying.new.readings.dialect ≡ staying.old.readings.dialect }
 {
     let former = staying.former.as_slice();
     let compared = Compared::new(before, &asked.files, staying.same.as_slice());

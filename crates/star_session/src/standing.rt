@@ -167,7 +167,8 @@ impl Staying<'_> {
             AreOutcomes before.now terms.prelude terms.mode self.old.former.items }
         requires outcomes { let terms = self.old.outcomes.terms in
             AreOutcomes files.now terms.prelude terms.mode self.old.outcomes.all.items }
-        requires reads { AreKnown files.now self.old.outcomes.terms.prelude self.old.readings.reads.all.items }
+        requires reads { let terms = self.old.outcomes.terms in
+            AreKnown files.now terms.prelude terms.mode.dialect self.old.readings.reads.all.items }
         requires same { AreSame before.now files.now self.old.same.items }
         ensures ends { let terms = self.old.outcomes.terms in OnOk result
             (AreEndsNow files.now terms.prelude terms.mode self.new.outcomes.all.items) }
@@ -201,7 +202,8 @@ impl<'t> Standing<'t> {
         ensures files { result.files ≡ files }
         ensures standing { IsStanding result }
     {
-        let readings = Readings::new(alloc, kept.outcomes.terms.prelude);
+        let Terms { prelude, mode } = kept.outcomes.terms;
+        let readings = Readings::new(alloc, prelude, mode.dialect);
         Standing {
             files,
             kept,
@@ -299,6 +301,7 @@ impl<'t> Standing<'t> {
         ensures alike { IfOk result (λ s.
             0 < length s.former.items → AreAlike self.old.files files.now terms.prelude) }
         ensures prelude { IfOk result (λ s. s.readings.prelude ≡ terms.prelude) }
+        ensures dialect { IfOk result (λ s. s.readings.dialect ≡ terms.mode.dialect) }
         ensures readings { IfOk result (λ s. AreReadings files.now s.readings) }
         ensures same { IfOk result (λ s. AreSame self.old.files files.now s.same.items) }
     {
@@ -309,8 +312,10 @@ impl<'t> Standing<'t> {
         self.kept.parses = Parses::new(alloc);
         let before = mem::replace(&mut self.kept.outcomes, Outcomes::new(alloc, terms));
         let (outcomes, former) = before.after(rt, alloc, &compared, terms, threads)?;
-        let before = mem::replace(&mut self.readings, Readings::new(alloc, terms.prelude));
-        let readings = before.after(alloc, &compared, terms.prelude);
+        let Terms { prelude, mode } = terms;
+        let none = Readings::new(alloc, prelude, mode.dialect);
+        let before = mem::replace(&mut self.readings, none);
+        let readings = before.after(alloc, &compared, prelude, mode.dialect);
         self.set_ballast(ballast);
         Ok(Staying {
             parses,

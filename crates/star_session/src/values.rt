@@ -16,6 +16,9 @@ const ITEM_BYTES: usize = 64;
 /// The bytes of an entry of a dictionary, also in its index.
 const ENTRY_BYTES: usize = 192;
 
+/// The bytes of a field of a struct: its name, which may be shared, and an item.
+const FIELD_BYTES: usize = 128;
+
 /// The bytes of a function, of a frame, or of the end of a file.
 const LARGE_BYTES: usize = 256;
 
@@ -30,6 +33,7 @@ fn bytes_of(cell: &Cell) -> usize {
         Cell::Frame(_) => LARGE_BYTES,
         Cell::Range(_) => 0,
         Cell::Bound(_, _) => 0,
+        Cell::Struct(fields) => fields.get().len().saturating_mul(FIELD_BYTES),
     };
     items.saturating_add(CELL_BYTES)
 }

@@ -12,7 +12,8 @@ use Rattle.star_store.specs.declared.values.Cell.TheVariants as cell
 use Rattle.star_store.specs.declared.content.Atom.{Atom}
 use Rattle.star_store.specs.declared.content.Atom.TheVariants as atom
 use Rattle.star_store.specs.Content.{KeepsKeys, after, atom_in, content, content_cell, content_each, content_row, content_value, join, only_atom, same_atom, same_content}
-use Rattle.star_store.specs.Key.{all_pass, is_key, key_cell, key_value, same_key, same_key_cell, same_key_items, same_key_place, same_key_value}
+use Rattle.star_store.specs.Fields.{Fields, names_of, same_names, values_of}
+use Rattle.star_store.specs.Key.{all_pass, is_key, key_cell, key_value, same_key, same_key_cell, same_key_fields, same_key_items, same_key_place, same_key_value}
 
 pub content_at_none : (look : Value → Option Cell) (v : Value) → content look 0 v ≡ None
 unfolding content
@@ -50,9 +51,9 @@ after_next xs ys (Some ks) (Some bs) h = ap Some (sym (append_assoc xs ks bs)) �
 after_next xs ys (Some ks) None h = refl
 after_next xs ys None b h = cc
 
--- the head of a row was added
-pub row_added : (xs ys : List Atom) (n : ℕ) (b : Option (List Atom)) → ys ≡ xs ++ atom.Row n ∷ [] → after ys b ≡ after xs (join (Some (atom.Row n ∷ [])) b)
-row_added xs ys n b h = sym (after_next xs ys (Some (atom.Row n ∷ [])) b (ap Some (sym h)))
+-- the head of a row, or of a struct, was added
+pub head_added : (xs ys : List Atom) (a : Atom) (b : Option (List Atom)) → ys ≡ xs ++ a ∷ [] → after ys b ≡ after xs (join (Some (a ∷ [])) b)
+head_added xs ys a b h = sym (after_next xs ys (Some (a ∷ [])) b (ap Some (sym h)))
 
 -- joining
 
@@ -108,42 +109,51 @@ one a b (Some xs) (Some ys) = refl
 one a b (Some xs) None = sym (and_false (same_atom a b))
 one a b None p = sym (and_false (same_atom a b))
 
--- a cell has no content, a string's or a tuple's
-shape : (P : Option (List Atom) → Type 0) → P None → ((t : List ℕ) → P (Some (atom.Text t ∷ []))) → ((n : ℕ) (e : Option (List Atom)) → P (join (Some (atom.Row n ∷ [])) e)) → (f : Value → Option (List Atom)) (c : Option Cell) → P (content_cell f c)
-shape P hn ht hr f (Some (cell.Text t)) = ht t
-shape P hn ht hr f (Some (cell.Tuple xs)) = hr (length xs) (content_each f xs)
-shape P hn ht hr f (Some (cell.Range r)) = hn
-shape P hn ht hr f (Some (cell.List xs)) = hn
-shape P hn ht hr f (Some (cell.Dict es)) = hn
-shape P hn ht hr f (Some (cell.Func g)) = hn
-shape P hn ht hr f (Some (cell.Frame g)) = hn
-shape P hn ht hr f (Some (cell.Bound m v)) = hn
-shape P hn ht hr f None = hn
+-- a cell has no content, a string's, a tuple's or a struct's
+shape : (P : Option (List Atom) → Type 0) → P None → ((t : List ℕ) → P (Some (atom.Text t ∷ []))) → ((n : ℕ) (e : Option (List Atom)) → P (join (Some (atom.Row n ∷ [])) e)) → ((ns : List (List ℕ)) (e : Option (List Atom)) → P (join (Some (atom.Names ns ∷ [])) e)) → (f : Value → Option (List Atom)) (c : Option Cell) → P (content_cell f c)
+shape P hn ht hr hs f (Some (cell.Text t)) = ht t
+shape P hn ht hr hs f (Some (cell.Tuple xs)) = hr (length xs) (content_each f xs)
+shape P hn ht hr hs f (Some (cell.Struct fs)) = hs (names_of fs) (content_row f (values_of fs))
+shape P hn ht hr hs f (Some (cell.Range r)) = hn
+shape P hn ht hr hs f (Some (cell.List xs)) = hn
+shape P hn ht hr hs f (Some (cell.Dict es)) = hn
+shape P hn ht hr hs f (Some (cell.Func g)) = hn
+shape P hn ht hr hs f (Some (cell.Frame g)) = hn
+shape P hn ht hr hs f (Some (cell.Bound m v)) = hn
+shape P hn ht hr hs f None = hn
 
-row_right : (a : Atom) (n : ℕ) (e o p : Option (List Atom)) → same_content (join (Some (a ∷ [])) o) (join (join (Some (atom.Row n ∷ [])) e) p) ≡ (same_atom a (atom.Row n) && same_content o (join e p))
-row_right a n e o p = ap (same_content (join (Some (a ∷ [])) o)) (join_assoc (Some (atom.Row n ∷ [])) e p) ∙ one a (atom.Row n) o (join e p)
+head_right : (a b : Atom) (e o p : Option (List Atom)) → same_content (join (Some (a ∷ [])) o) (join (join (Some (b ∷ [])) e) p) ≡ (same_atom a b && same_content o (join e p))
+head_right a b e o p = ap (same_content (join (Some (a ∷ [])) o)) (join_assoc (Some (b ∷ [])) e p) ∙ one a b o (join e p)
 
-row_left : (a : Atom) (n : ℕ) (e o p : Option (List Atom)) → same_content (join (join (Some (atom.Row n ∷ [])) e) p) (join (Some (a ∷ [])) o) ≡ (same_atom (atom.Row n) a && same_content (join e p) o)
-row_left a n e o p = ap (λ q. same_content q (join (Some (a ∷ [])) o)) (join_assoc (Some (atom.Row n ∷ [])) e p) ∙ one (atom.Row n) a (join e p) o
+head_left : (a b : Atom) (e o p : Option (List Atom)) → same_content (join (join (Some (b ∷ [])) e) p) (join (Some (a ∷ [])) o) ≡ (same_atom b a && same_content (join e p) o)
+head_left a b e o p = ap (λ q. same_content q (join (Some (a ∷ [])) o)) (join_assoc (Some (b ∷ [])) e p) ∙ one b a (join e p) o
+
+-- each has a head
+heads_same : (a b : Atom) (e d o p : Option (List Atom)) → same_content (join (join (Some (a ∷ [])) e) o) (join (join (Some (b ∷ [])) d) p) ≡ (same_atom a b && same_content (join e o) (join d p))
+heads_same a b e d o p =
+    ap (λ q. same_content q (join (join (Some (b ∷ [])) d) p)) (join_assoc (Some (a ∷ [])) e o)
+    ∙ head_right a b d (join e o) p
 
 pub false_and : (b c : Bool) → b ≡ false → (b && c) ≡ false
 false_and b c h = ap (λ d. d && c) h
 
--- an atom that is neither a string nor a row is not the content of a cell
-apart_right : (a : Atom) → ((t : List ℕ) → same_atom a (atom.Text t) ≡ false) → ((n : ℕ) → same_atom a (atom.Row n) ≡ false) → (f : Value → Option (List Atom)) (c : Option Cell) (o p : Option (List Atom)) → same_content (join (Some (a ∷ [])) o) (join (content_cell f c) p) ≡ false
-apart_right a ht hr f c o p =
+-- an atom that is neither a string nor the head of a row or a struct is not the content of a cell
+apart_right : (a : Atom) → ((t : List ℕ) → same_atom a (atom.Text t) ≡ false) → ((n : ℕ) → same_atom a (atom.Row n) ≡ false) → ((ns : List (List ℕ)) → same_atom a (atom.Names ns) ≡ false) → (f : Value → Option (List Atom)) (c : Option Cell) (o p : Option (List Atom)) → same_content (join (Some (a ∷ [])) o) (join (content_cell f c) p) ≡ false
+apart_right a ht hr hs f c o p =
     shape (λ q. same_content (join (Some (a ∷ [])) o) (join q p) ≡ false)
     (none_right (join (Some (a ∷ [])) o))
     (λ t. one a (atom.Text t) o p ∙ false_and (same_atom a (atom.Text t)) (same_content o p) (ht t))
-    (λ n e. row_right a n e o p ∙ false_and (same_atom a (atom.Row n)) (same_content o (join e p)) (hr n))
+    (λ n e. head_right a (atom.Row n) e o p ∙ false_and (same_atom a (atom.Row n)) (same_content o (join e p)) (hr n))
+    (λ ns e. head_right a (atom.Names ns) e o p ∙ false_and (same_atom a (atom.Names ns)) (same_content o (join e p)) (hs ns))
     f c
 
-apart_left : (a : Atom) → ((t : List ℕ) → same_atom (atom.Text t) a ≡ false) → ((n : ℕ) → same_atom (atom.Row n) a ≡ false) → (f : Value → Option (List Atom)) (c : Option Cell) (o p : Option (List Atom)) → same_content (join (content_cell f c) p) (join (Some (a ∷ [])) o) ≡ false
-apart_left a ht hr f c o p =
+apart_left : (a : Atom) → ((t : List ℕ) → same_atom (atom.Text t) a ≡ false) → ((n : ℕ) → same_atom (atom.Row n) a ≡ false) → ((ns : List (List ℕ)) → same_atom (atom.Names ns) a ≡ false) → (f : Value → Option (List Atom)) (c : Option Cell) (o p : Option (List Atom)) → same_content (join (content_cell f c) p) (join (Some (a ∷ [])) o) ≡ false
+apart_left a ht hr hs f c o p =
     shape (λ q. same_content (join q p) (join (Some (a ∷ [])) o) ≡ false)
     refl
     (λ t. one (atom.Text t) a p o ∙ false_and (same_atom (atom.Text t) a) (same_content p o) (ht t))
-    (λ n e. row_left a n e o p ∙ false_and (same_atom (atom.Row n) a) (same_content (join e p) o) (hr n))
+    (λ n e. head_left a (atom.Row n) e o p ∙ false_and (same_atom (atom.Row n) a) (same_content (join e p) o) (hr n))
+    (λ ns e. head_left a (atom.Names ns) e o p ∙ false_and (same_atom (atom.Names ns) a) (same_content (join e p) o) (hs ns))
     f c
 
 -- items
@@ -180,8 +190,7 @@ rows_same f s d (x ∷ xs) (y ∷ ys) o p h =
 
 tuples_same : (f : Value → Option (List Atom)) (s : Value → Value → Bool) → Decides f s → (xs ys : List Value) (o p : Option (List Atom)) → same_content (join (content_cell f (Some (cell.Tuple xs))) o) (join (content_cell f (Some (cell.Tuple ys))) p) ≡ (same_key_items s xs ys && same_content o p)
 tuples_same f s d xs ys o p =
-    ap (λ q. same_content q (join (content_cell f (Some (cell.Tuple ys))) p)) (join_assoc (Some (atom.Row (length xs) ∷ [])) (content_each f xs) o)
-    ∙ row_right (atom.Row (length xs)) (length ys) (content_each f ys) (join (content_each f xs) o) p
+    heads_same (atom.Row (length xs)) (atom.Row (length ys)) (content_each f xs) (content_each f ys) o p
     ∙ by (nat_eq (length xs) (length ys)) refl
   where
     by : (b : Bool) → nat_eq (length xs) (length ys) ≡ b → (nat_eq (length xs) (length ys) && same_content (join (content_each f xs) o) (join (content_each f ys) p)) ≡ (same_key_items s xs ys && same_content o p)
@@ -194,11 +203,18 @@ tuples_same f s d xs ys o p =
         ap (λ b. b && same_content (join (content_each f xs) o) (join (content_each f ys) p)) e
         ∙ ap (λ b. (if b then all_pass (same_key_place s xs ys) (length xs) 0 else false) && same_content o p) (sym e)
 
+structs_same : (f : Value → Option (List Atom)) (s : Value → Value → Bool) → Decides f s → (xs ys : Fields) (o p : Option (List Atom)) → same_content (join (content_cell f (Some (cell.Struct xs))) o) (join (content_cell f (Some (cell.Struct ys))) p) ≡ (same_key_fields s xs ys && same_content o p)
+structs_same f s d xs ys o p =
+    heads_same (atom.Names (names_of xs)) (atom.Names (names_of ys)) (content_row f (values_of xs)) (content_row f (values_of ys)) o p
+    ∙ ap (λ (b : Bool). same_names (names_of xs) (names_of ys) && b) (tuples_same f s d (values_of xs) (values_of ys) o p)
+    ∙ sym (and_assoc (same_names (names_of xs) (names_of ys)) (same_key_items s (values_of xs) (values_of ys)) (same_content o p))
+
 -- cells
 
 cells_same : (f : Value → Option (List Atom)) (s : Value → Value → Bool) → Decides f s → (a b : Option Cell) (o p : Option (List Atom)) → same_content (join (content_cell f a) o) (join (content_cell f b) p) ≡ (same_key_cell s a b && same_content o p)
 cells_same f s d (Some (cell.Text t)) (Some (cell.Text u)) o p = one (atom.Text t) (atom.Text u) o p
-cells_same f s d (Some (cell.Text t)) (Some (cell.Tuple ys)) o p = row_right (atom.Text t) (length ys) (content_each f ys) o p
+cells_same f s d (Some (cell.Text t)) (Some (cell.Tuple ys)) o p = head_right (atom.Text t) (atom.Row (length ys)) (content_each f ys) o p
+cells_same f s d (Some (cell.Text t)) (Some (cell.Struct ys)) o p = head_right (atom.Text t) (atom.Names (names_of ys)) (content_row f (values_of ys)) o p
 cells_same f s d (Some (cell.Text t)) (Some (cell.Range r)) o p = none_right (join (Some (atom.Text t ∷ [])) o)
 cells_same f s d (Some (cell.Text t)) (Some (cell.List ys)) o p = none_right (join (Some (atom.Text t ∷ [])) o)
 cells_same f s d (Some (cell.Text t)) (Some (cell.Dict es)) o p = none_right (join (Some (atom.Text t ∷ [])) o)
@@ -207,7 +223,8 @@ cells_same f s d (Some (cell.Text t)) (Some (cell.Frame g)) o p = none_right (jo
 cells_same f s d (Some (cell.Text t)) (Some (cell.Bound m v)) o p = none_right (join (Some (atom.Text t ∷ [])) o)
 cells_same f s d (Some (cell.Text t)) None o p = none_right (join (Some (atom.Text t ∷ [])) o)
 cells_same f s d (Some (cell.Tuple xs)) (Some (cell.Tuple ys)) o p = tuples_same f s d xs ys o p
-cells_same f s d (Some (cell.Tuple xs)) (Some (cell.Text u)) o p = row_left (atom.Text u) (length xs) (content_each f xs) p o
+cells_same f s d (Some (cell.Tuple xs)) (Some (cell.Text u)) o p = head_left (atom.Text u) (atom.Row (length xs)) (content_each f xs) p o
+cells_same f s d (Some (cell.Tuple xs)) (Some (cell.Struct ys)) o p = heads_same (atom.Row (length xs)) (atom.Names (names_of ys)) (content_each f xs) (content_row f (values_of ys)) o p
 cells_same f s d (Some (cell.Tuple xs)) (Some (cell.Range r)) o p = none_right (join (content_cell f (Some (cell.Tuple xs))) o)
 cells_same f s d (Some (cell.Tuple xs)) (Some (cell.List ys)) o p = none_right (join (content_cell f (Some (cell.Tuple xs))) o)
 cells_same f s d (Some (cell.Tuple xs)) (Some (cell.Dict es)) o p = none_right (join (content_cell f (Some (cell.Tuple xs))) o)
@@ -215,6 +232,16 @@ cells_same f s d (Some (cell.Tuple xs)) (Some (cell.Func g)) o p = none_right (j
 cells_same f s d (Some (cell.Tuple xs)) (Some (cell.Frame g)) o p = none_right (join (content_cell f (Some (cell.Tuple xs))) o)
 cells_same f s d (Some (cell.Tuple xs)) (Some (cell.Bound m v)) o p = none_right (join (content_cell f (Some (cell.Tuple xs))) o)
 cells_same f s d (Some (cell.Tuple xs)) None o p = none_right (join (content_cell f (Some (cell.Tuple xs))) o)
+cells_same f s d (Some (cell.Struct xs)) (Some (cell.Struct ys)) o p = structs_same f s d xs ys o p
+cells_same f s d (Some (cell.Struct xs)) (Some (cell.Text u)) o p = head_left (atom.Text u) (atom.Names (names_of xs)) (content_row f (values_of xs)) p o
+cells_same f s d (Some (cell.Struct xs)) (Some (cell.Tuple ys)) o p = heads_same (atom.Names (names_of xs)) (atom.Row (length ys)) (content_row f (values_of xs)) (content_each f ys) o p
+cells_same f s d (Some (cell.Struct xs)) (Some (cell.Range r)) o p = none_right (join (content_cell f (Some (cell.Struct xs))) o)
+cells_same f s d (Some (cell.Struct xs)) (Some (cell.List ys)) o p = none_right (join (content_cell f (Some (cell.Struct xs))) o)
+cells_same f s d (Some (cell.Struct xs)) (Some (cell.Dict es)) o p = none_right (join (content_cell f (Some (cell.Struct xs))) o)
+cells_same f s d (Some (cell.Struct xs)) (Some (cell.Func g)) o p = none_right (join (content_cell f (Some (cell.Struct xs))) o)
+cells_same f s d (Some (cell.Struct xs)) (Some (cell.Frame g)) o p = none_right (join (content_cell f (Some (cell.Struct xs))) o)
+cells_same f s d (Some (cell.Struct xs)) (Some (cell.Bound m v)) o p = none_right (join (content_cell f (Some (cell.Struct xs))) o)
+cells_same f s d (Some (cell.Struct xs)) None o p = none_right (join (content_cell f (Some (cell.Struct xs))) o)
 cells_same f s d (Some (cell.Range r)) b o p = refl
 cells_same f s d (Some (cell.List xs)) b o p = refl
 cells_same f s d (Some (cell.Dict es)) b o p = refl
@@ -230,21 +257,21 @@ values_same look f s d value.NoneValue value.NoneValue o p = one atom.Nothing at
 values_same look f s d value.NoneValue (value.Bool c) o p = one atom.Nothing (atom.Bool c) o p
 values_same look f s d value.NoneValue (value.Int n) o p = one atom.Nothing (atom.Int n) o p
 values_same look f s d value.NoneValue (value.Builtin b) o p = none_right (join (Some (atom.Nothing ∷ [])) o)
-values_same look f s d value.NoneValue (value.Ref h a) o p = apart_right atom.Nothing (λ t. refl) (λ n. refl) f (look (value.Ref h a)) o p
+values_same look f s d value.NoneValue (value.Ref h a) o p = apart_right atom.Nothing (λ t. refl) (λ n. refl) (λ ns. refl) f (look (value.Ref h a)) o p
 values_same look f s d (value.Bool b) value.NoneValue o p = one (atom.Bool b) atom.Nothing o p
 values_same look f s d (value.Bool b) (value.Bool c) o p = one (atom.Bool b) (atom.Bool c) o p
 values_same look f s d (value.Bool b) (value.Int n) o p = one (atom.Bool b) (atom.Int n) o p
 values_same look f s d (value.Bool b) (value.Builtin c) o p = none_right (join (Some (atom.Bool b ∷ [])) o)
-values_same look f s d (value.Bool b) (value.Ref h a) o p = apart_right (atom.Bool b) (λ t. refl) (λ n. refl) f (look (value.Ref h a)) o p
+values_same look f s d (value.Bool b) (value.Ref h a) o p = apart_right (atom.Bool b) (λ t. refl) (λ n. refl) (λ ns. refl) f (look (value.Ref h a)) o p
 values_same look f s d (value.Int m) value.NoneValue o p = one (atom.Int m) atom.Nothing o p
 values_same look f s d (value.Int m) (value.Bool c) o p = one (atom.Int m) (atom.Bool c) o p
 values_same look f s d (value.Int m) (value.Int n) o p = one (atom.Int m) (atom.Int n) o p
 values_same look f s d (value.Int m) (value.Builtin c) o p = none_right (join (Some (atom.Int m ∷ [])) o)
-values_same look f s d (value.Int m) (value.Ref h a) o p = apart_right (atom.Int m) (λ t. refl) (λ n. refl) f (look (value.Ref h a)) o p
+values_same look f s d (value.Int m) (value.Ref h a) o p = apart_right (atom.Int m) (λ t. refl) (λ n. refl) (λ ns. refl) f (look (value.Ref h a)) o p
 values_same look f s d (value.Builtin b) y o p = refl
-values_same look f s d (value.Ref h a) value.NoneValue o p = apart_left atom.Nothing (λ t. refl) (λ n. refl) f (look (value.Ref h a)) p o
-values_same look f s d (value.Ref h a) (value.Bool c) o p = apart_left (atom.Bool c) (λ t. refl) (λ n. refl) f (look (value.Ref h a)) p o
-values_same look f s d (value.Ref h a) (value.Int n) o p = apart_left (atom.Int n) (λ t. refl) (λ n. refl) f (look (value.Ref h a)) p o
+values_same look f s d (value.Ref h a) value.NoneValue o p = apart_left atom.Nothing (λ t. refl) (λ n. refl) (λ ns. refl) f (look (value.Ref h a)) p o
+values_same look f s d (value.Ref h a) (value.Bool c) o p = apart_left (atom.Bool c) (λ t. refl) (λ n. refl) (λ ns. refl) f (look (value.Ref h a)) p o
+values_same look f s d (value.Ref h a) (value.Int n) o p = apart_left (atom.Int n) (λ t. refl) (λ n. refl) (λ ns. refl) f (look (value.Ref h a)) p o
 values_same look f s d (value.Ref h a) (value.Builtin c) o p = none_right (join (content_cell f (look (value.Ref h a))) o)
 values_same look f s d (value.Ref h a) (value.Ref k b) o p = cells_same f s d (look (value.Ref h a)) (look (value.Ref k b)) o p
 
@@ -271,6 +298,9 @@ items_have g f h (x ∷ xs) = ap (λ b. b && list_all g xs) (h x) ∙ ap (λ (b 
 
 cells_have : (g : Value → Bool) (f : Value → Option (List Atom)) → ((v : Value) → g v ≡ is_some (f v)) → (c : Option Cell) → key_cell g c ≡ is_some (content_cell f c)
 cells_have g f h (Some (cell.Tuple xs)) = items_have g f h xs ∙ sym (some_join (Some (atom.Row (length xs) ∷ [])) (content_each f xs))
+cells_have g f h (Some (cell.Struct fs)) =
+    items_have g f h (values_of fs) ∙ sym (some_join (Some (atom.Row (length (values_of fs)) ∷ [])) (content_each f (values_of fs)))
+    ∙ sym (some_join (Some (atom.Names (names_of fs) ∷ [])) (content_row f (values_of fs)))
 cells_have g f h _ = refl
 
 values_have : (look : Value → Option Cell) (g : Value → Bool) (f : Value → Option (List Atom)) → ((v : Value) → g v ≡ is_some (f v)) → (v : Value) → key_value look g v ≡ is_some (content_value look f v)
@@ -301,19 +331,25 @@ unfolding Follows
 items_follow f g h [] = λ atoms e. e
 items_follow f g h (x ∷ xs) = join_follows (f x) (content_each f xs) (g x) (content_each g xs) (h x) (items_follow f g h xs)
 
-cells_follow : (f g : Value → Option (List Atom)) → ((v : Value) → Follows (f v) (g v)) → (c d : Option Cell) → ((t : List ℕ) → c ≡ Some (cell.Text t) → d ≡ Some (cell.Text t)) → ((xs : List Value) → c ≡ Some (cell.Tuple xs) → d ≡ Some (cell.Tuple xs)) → Follows (content_cell f c) (content_cell g d)
+row_follows : (f g : Value → Option (List Atom)) → ((v : Value) → Follows (f v) (g v)) → (xs : List Value) → Follows (content_row f xs) (content_row g xs)
 unfolding Follows
-cells_follow f g h (Some (cell.Text t)) d ht hx atoms e = ap (content_cell g) (ht t refl) ∙ e
-cells_follow f g h (Some (cell.Tuple xs)) d ht hx atoms e =
-    ap (content_cell g) (hx xs refl)
-    ∙ join_follows (Some (atom.Row (length xs) ∷ [])) (content_each f xs) (Some (atom.Row (length xs) ∷ [])) (content_each g xs) (λ ks e. e) (items_follow f g h xs) atoms e
-cells_follow f g h (Some (cell.Range r)) d ht hx atoms e = cc
-cells_follow f g h (Some (cell.List xs)) d ht hx atoms e = cc
-cells_follow f g h (Some (cell.Dict es)) d ht hx atoms e = cc
-cells_follow f g h (Some (cell.Func r)) d ht hx atoms e = cc
-cells_follow f g h (Some (cell.Frame r)) d ht hx atoms e = cc
-cells_follow f g h (Some (cell.Bound m v)) d ht hx atoms e = cc
-cells_follow f g h None d ht hx atoms e = cc
+row_follows f g h xs =
+    join_follows (Some (atom.Row (length xs) ∷ [])) (content_each f xs) (Some (atom.Row (length xs) ∷ [])) (content_each g xs) (λ ks e. e) (items_follow f g h xs)
+
+cells_follow : (f g : Value → Option (List Atom)) → ((v : Value) → Follows (f v) (g v)) → (c d : Option Cell) → ((t : List ℕ) → c ≡ Some (cell.Text t) → d ≡ Some (cell.Text t)) → ((xs : List Value) → c ≡ Some (cell.Tuple xs) → d ≡ Some (cell.Tuple xs)) → ((fs : Fields) → c ≡ Some (cell.Struct fs) → d ≡ Some (cell.Struct fs)) → Follows (content_cell f c) (content_cell g d)
+unfolding Follows
+cells_follow f g h (Some (cell.Text t)) d ht hx hs atoms e = ap (content_cell g) (ht t refl) ∙ e
+cells_follow f g h (Some (cell.Tuple xs)) d ht hx hs atoms e = ap (content_cell g) (hx xs refl) ∙ row_follows f g h xs atoms e
+cells_follow f g h (Some (cell.Struct fs)) d ht hx hs atoms e =
+    ap (content_cell g) (hs fs refl)
+    ∙ join_follows (Some (atom.Names (names_of fs) ∷ [])) (content_row f (values_of fs)) (Some (atom.Names (names_of fs) ∷ [])) (content_row g (values_of fs)) (λ ks e. e) (row_follows f g h (values_of fs)) atoms e
+cells_follow f g h (Some (cell.Range r)) d ht hx hs atoms e = cc
+cells_follow f g h (Some (cell.List xs)) d ht hx hs atoms e = cc
+cells_follow f g h (Some (cell.Dict es)) d ht hx hs atoms e = cc
+cells_follow f g h (Some (cell.Func r)) d ht hx hs atoms e = cc
+cells_follow f g h (Some (cell.Frame r)) d ht hx hs atoms e = cc
+cells_follow f g h (Some (cell.Bound m v)) d ht hx hs atoms e = cc
+cells_follow f g h None d ht hx hs atoms e = cc
 
 values_follow : (look later : Value → Option Cell) → KeepsKeys look later → (f g : Value → Option (List Atom)) → ((v : Value) → Follows (f v) (g v)) → (v : Value) → Follows (content_value look f v) (content_value later g v)
 unfolding Follows
@@ -321,7 +357,7 @@ values_follow look later k f g h value.NoneValue = λ atoms e. e
 values_follow look later k f g h (value.Bool b) = λ atoms e. e
 values_follow look later k f g h (value.Int n) = λ atoms e. e
 values_follow look later k f g h (value.Builtin b) = λ atoms e. e
-values_follow look later k f g h (value.Ref m a) = cells_follow f g h (look (value.Ref m a)) (later (value.Ref m a)) (k.texts (value.Ref m a)) (k.tuples (value.Ref m a))
+values_follow look later k f g h (value.Ref m a) = cells_follow f g h (look (value.Ref m a)) (later (value.Ref m a)) (k.texts (value.Ref m a)) (k.tuples (value.Ref m a)) (k.structs (value.Ref m a))
 
 followed : (look later : Value → Option Cell) → KeepsKeys look later → (n : ℕ) (v : Value) → Follows (content look n v) (content later n v)
 unfolding content Follows

@@ -12,7 +12,8 @@ use Rattle.star_store.specs.declared.values.Cell.{Cell}
 use Rattle.star_store.specs.declared.values.Cell.TheVariants as cell
 use Rattle.star_store.specs.declared.content.Atom.{Atom}
 use Rattle.star_store.specs.declared.content.Atom.TheVariants as atom
-use Rattle.star_store.specs.Content.{KeepsKeys, content, content_cell, content_each, content_value, join, same_atom, same_content}
+use Rattle.star_store.specs.Content.{KeepsKeys, content, content_cell, content_each, content_row, content_value, join, same_atom, same_content}
+use Rattle.star_store.specs.Fields.{names_of, values_of}
 use Rattle.star_store.specs.Index.{Covers, IsIndexed, IsKnown, Places, PlacesAt, Shows, alone, entries_of, far_home, is_far, is_within, key_entry, place_by, place_told}
 use Rattle.star_store.specs.Key.{key_levels, same_key}
 use Rattle.star_store.specs.Store.{Store}
@@ -28,6 +29,7 @@ not_far (atom.Bool b) = true
 not_far (atom.Int n) = true
 not_far (atom.Text t) = true
 not_far (atom.Row n) = true
+not_far (atom.Names ns) = true
 
 -- whether a list of atoms does not begin with a number
 pub near : List Atom → Bool
@@ -47,9 +49,14 @@ content_near look (suc n) v k h = in_value v h
     in_row m (Some ys) e = sym (is (atom.Row m ∷ ys) e)
     in_row m None e = cc
 
+    in_struct : (ns : List (List ℕ)) (o : Option (List Atom)) → join (Some (atom.Names ns ∷ [])) o ≡ Some k → near k ≡ true
+    in_struct ns (Some ys) e = sym (is (atom.Names ns ∷ ys) e)
+    in_struct ns None e = cc
+
     in_cell : (c : Option Cell) → content_cell (content look n) c ≡ Some k → near k ≡ true
     in_cell (Some (cell.Text t)) e = sym (is (atom.Text t ∷ []) e)
     in_cell (Some (cell.Tuple xs)) e = in_row (length xs) (content_each (content look n) xs) e
+    in_cell (Some (cell.Struct fs)) e = in_struct (names_of fs) (content_row (content look n) (values_of fs)) e
     in_cell _ e = cc
 
     in_value : (v : Value) → content_value look (content look n) v ≡ Some k → near k ≡ true
@@ -68,6 +75,7 @@ far_alone look atoms (atom.Bool b ∷ ks) e = refl
 far_alone look atoms (atom.Int n ∷ ks) e = refl
 far_alone look atoms (atom.Text t ∷ ks) e = refl
 far_alone look atoms (atom.Row n ∷ ks) e = refl
+far_alone look atoms (atom.Names ns ∷ ks) e = refl
 
 -- a content is not a number
 not_same : (atoms : List Atom) (h a : ℕ) → near atoms ≡ true → pointwise same_atom atoms (atom.Far h a ∷ []) ≡ false
@@ -79,6 +87,7 @@ not_same (atom.Bool b ∷ ks) h a e = refl
 not_same (atom.Int n ∷ ks) h a e = refl
 not_same (atom.Text t ∷ ks) h a e = refl
 not_same (atom.Row n ∷ ks) h a e = refl
+not_same (atom.Names ns ∷ ks) h a e = refl
 
 -- a store's keys beside others
 
@@ -94,7 +103,7 @@ shown s look h (value.Int n) c e = cc
 shown s look h (value.Builtin b) c e = cc
 
 shown_keeps : (s : Store) (look : Value → Option Cell) → Shows look s.home s.cells → KeepsKeys (alone s) look
-shown_keeps s look h = record { texts = λ v t e. shown s look h v (cell.Text t) e; tuples = λ v xs e. shown s look h v (cell.Tuple xs) e }
+shown_keeps s look h = record { texts = λ v t e. shown s look h v (cell.Text t) e; tuples = λ v xs e. shown s look h v (cell.Tuple xs) e; structs = λ v fs e. shown s look h v (cell.Struct fs) e }
 
 -- whether a key of an index has a content
 abbrev has_key : (Value → Option Cell) → List Atom → List Atom → Bool
@@ -180,6 +189,7 @@ no_number look atoms (atom.Bool b ∷ ks) e = refl
 no_number look atoms (atom.Int n ∷ ks) e = refl
 no_number look atoms (atom.Text t ∷ ks) e = refl
 no_number look atoms (atom.Row n ∷ ks) e = refl
+no_number look atoms (atom.Names ns ∷ ks) e = refl
 
 near_tests : (look : Value → Option Cell) (atoms : List Atom) (index : List (List Atom)) → Covers [] index → map (pointwise same_atom atoms) index ≡ map (has_key look atoms) index
 near_tests look atoms [] h = refl
@@ -228,6 +238,7 @@ content_at look (Some (cell.List t)) index at e a k h p q = cc
 content_at look (Some (cell.Func t)) index at e a k h p q = cc
 content_at look (Some (cell.Frame t)) index at e a k h p q = cc
 content_at look (Some (cell.Bound m v)) index at e a k h p q = cc
+content_at look (Some (cell.Struct t)) index at e a k h p q = cc
 content_at look None index at e a k h p q = cc
 
 -- a content of one dictionary's index is at the place in another's that its key has among the entries

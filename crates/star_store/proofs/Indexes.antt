@@ -20,6 +20,7 @@ use Rattle.star_store.specs.declared.fault.StoreFault.{StoreFault}
 use Rattle.star_store.specs.declared.fault.StoreFault.TheVariants.{BadType, Key}
 use Rattle.star_store.specs.Content.{KeepsKeys, content, same_content}
 use Rattle.star_store.specs.Equal.{same_entry, same_found, same_pairs}
+use Rattle.star_store.specs.Fields.{Fields}
 use Rattle.star_store.specs.Index.{AreChanged, AreIndexed, Indexes, IsIndexed, IsKnown, Places, PlacesAt, Shows, alone, beside, entries_of, index_after, index_at, key_entry, value_at}
 use Rattle.star_store.specs.Key.{find_in, is_key, key_levels, place_of, same_key, value_of}
 use Rattle.star_store.specs.Spend.{Spend, answer}
@@ -140,11 +141,12 @@ none_shown own cells s shelf home es n h = λ at. by (slice_get shelf home) h at
 
 -- a store that changes
 
--- strings and tuples stay where they are
+-- strings, tuples and structs stay where they are
 pub record Stays (s t : Store) : Type 0 where
   pub home : t.home ≡ s.home
   pub texts : (at : ℕ) (x : List ℕ) → cell_at s.cells at ≡ Some (cell.Text x) → cell_at t.cells at ≡ Some (cell.Text x)
   pub tuples : (at : ℕ) (xs : List Value) → cell_at s.cells at ≡ Some (cell.Tuple xs) → cell_at t.cells at ≡ Some (cell.Tuple xs)
+  pub structs : (at : ℕ) (fs : Fields) → cell_at s.cells at ≡ Some (cell.Struct fs) → cell_at t.cells at ≡ Some (cell.Struct fs)
 
 alone_at : (s t : Store) (home at : ℕ) (c : Cell) → t.home ≡ s.home → (cell_at s.cells at ≡ Some c → cell_at t.cells at ≡ Some c) → alone s (value.Ref home at) ≡ Some c → alone t (value.Ref home at) ≡ Some c
 alone_at s t home at c q f h =
@@ -163,8 +165,12 @@ alone_tuples : (s t : Store) → Stays s t → (v : Value) (xs : List Value) →
 alone_tuples s t k (value.Ref home at) xs h = alone_at s t home at (cell.Tuple xs) k.home (k.tuples at xs) h
 alone_tuples s t k _ xs h = cc
 
+alone_structs : (s t : Store) → Stays s t → (v : Value) (fs : Fields) → alone s v ≡ Some (cell.Struct fs) → alone t v ≡ Some (cell.Struct fs)
+alone_structs s t k (value.Ref home at) fs h = alone_at s t home at (cell.Struct fs) k.home (k.structs at fs) h
+alone_structs s t k _ fs h = cc
+
 alone_stays : (s t : Store) → Stays s t → KeepsKeys (alone s) (alone t)
-alone_stays s t k = record { texts = alone_texts s t k; tuples = alone_tuples s t k }
+alone_stays s t k = record { texts = alone_texts s t k; tuples = alone_tuples s t k; structs = alone_structs s t k }
 
 -- the entry of an index for a key stays
 entry_stays : (s t : Store) → Stays s t → (v : Value) (a : List Atom) → key_entry s v ≡ Some a → key_entry t v ≡ Some a
@@ -197,7 +203,7 @@ within_rows [] at index h = cc
 within_rows (r ∷ indexes) zero index h = omega arith
 within_rows (r ∷ indexes) (suc at) index h = let k : at < length indexes = within_rows indexes at index h in omega arith
 
--- if strings and tuples stay, and so do the dictionaries that may have an index, indexes stay right
+-- if strings, tuples and structs stay, and so do the dictionaries that may have an index, indexes stay right
 pub still_indexed : (s t : Store) (indexes : Indexes) → AreIndexed s indexes → Stays s t → ((at : ℕ) (es : List (Value × Value)) → at < length s.cells → cell_at t.cells at ≡ Some (cell.Dict es) → cell_at s.cells at ≡ Some (cell.Dict es)) → length s.cells ≤ length t.cells → AreIndexed t indexes
 still_indexed s t indexes h k d l = record { each = λ at index q. each at index q (cell_at t.cells at) refl; within = let w : length indexes ≤ length s.cells = h.within in omega arith }
   where
@@ -214,6 +220,7 @@ still_indexed s t indexes h k d l = record { each = λ at index q. each at index
     each at index q (Some (cell.Func f)) e = tt
     each at index q (Some (cell.Frame f)) e = tt
     each at index q (Some (cell.Bound m v)) e = tt
+    each at index q (Some (cell.Struct fs)) e = tt
     each at index q None e = tt
 
 pub front : {X : Type 0} (xs ys : List X) (i : ℕ) → i < length xs → slice_get (xs ++ ys) i ≡ slice_get xs i
@@ -231,7 +238,7 @@ pub made_indexed : (home : ℕ) (cells : List HeapCell) (e : HeapCell) (indexes 
 unfolding store
 made_indexed home cells e indexes h =
     still_indexed (store home cells) (store home (cells ++ e ∷ [])) indexes h
-    (record { home = refl; texts = λ at x q. kept at (cell.Text x) q; tuples = λ at xs q. kept at (cell.Tuple xs) q })
+    (record { home = refl; texts = λ at x q. kept at (cell.Text x) q; tuples = λ at xs q. kept at (cell.Tuple xs) q; structs = λ at fs q. kept at (cell.Struct fs) q })
     (λ at es l q. sym (same at l) ∙ q)
     (omega (arith, length-append cells (e ∷ [])))
   where
@@ -255,20 +262,21 @@ length_changed f [] at = refl
 length_changed f (e ∷ cells) zero = refl
 length_changed f (e ∷ cells) (suc at) = ap suc (length_changed f cells at)
 
--- a string or a tuple stays, and a dictionary is not new
+-- a string, a tuple or a struct stays, and a dictionary is not new
 pub record CellStays (c d : Option Cell) : Type 0 where
   pub texts : (x : List ℕ) → c ≡ Some (cell.Text x) → d ≡ Some (cell.Text x)
   pub tuples : (xs : List Value) → c ≡ Some (cell.Tuple xs) → d ≡ Some (cell.Tuple xs)
+  pub structs : (fs : Fields) → c ≡ Some (cell.Struct fs) → d ≡ Some (cell.Struct fs)
   pub dicts : (es : List (Value × Value)) → d ≡ Some (cell.Dict es) → c ≡ Some (cell.Dict es)
 
 itself : (c : Option Cell) → CellStays c c
-itself c = record { texts = λ x h. h; tuples = λ xs h. h; dicts = λ es h. h }
+itself c = record { texts = λ x h. h; tuples = λ xs h. h; structs = λ fs h. h; dicts = λ es h. h }
 
 pub changed_indexed : (home : ℕ) (cells : List HeapCell) (f : HeapCell → HeapCell) (at : ℕ) (indexes : Indexes) → ((e : HeapCell) → CellStays (Some e.cell) (Some (f e).cell)) → AreIndexed (record { home = home; cells = cells }) indexes → AreIndexed (record { home = home; cells = changed_at f cells at }) indexes
 unfolding store
 changed_indexed home cells f at indexes one h =
     still_indexed (store home cells) (store home (changed_at f cells at)) indexes h
-    (record { home = refl; texts = λ i x q. (all i).texts x q; tuples = λ i xs q. (all i).tuples xs q })
+    (record { home = refl; texts = λ i x q. (all i).texts x q; tuples = λ i xs q. (all i).tuples xs q; structs = λ i fs q. (all i).structs fs q })
     (λ i es l q. (all i).dicts es q)
     (omega (arith, length_changed f cells at))
   where
@@ -276,7 +284,7 @@ changed_indexed home cells f at indexes one h =
     all i = changed_by CellStays f itself one cells at i
 
 pub cell_same : (c d : Cell) → d ≡ c → CellStays (Some c) (Some d)
-cell_same c d q = record { texts = λ x h. ap Some q ∙ h; tuples = λ xs h. ap Some q ∙ h; dicts = λ es h. ap Some (sym q) ∙ h }
+cell_same c d q = record { texts = λ x h. ap Some q ∙ h; tuples = λ xs h. ap Some q ∙ h; structs = λ fs h. ap Some q ∙ h; dicts = λ es h. ap Some (sym q) ∙ h }
 
 pub opened_stays : (e : HeapCell) → CellStays (Some e.cell) (Some (opened_in e).cell)
 opened_stays e = cell_same e.cell (opened_in e).cell (by (is_container e.cell))
@@ -293,7 +301,7 @@ closed_stays e = cell_same e.cell (closed_in e).cell (by (is_container e.cell))
     by false = refl
 
 bound_cell_stays : (slot : ℕ) (v : Value) (c : Cell) → CellStays (Some c) (Some (bound_cell slot v c))
-bound_cell_stays slot v (cell.Frame f) = record { texts = λ x h. cc; tuples = λ xs h. cc; dicts = λ es h. cc }
+bound_cell_stays slot v (cell.Frame f) = record { texts = λ x h. cc; tuples = λ xs h. cc; structs = λ fs h. cc; dicts = λ es h. cc }
 bound_cell_stays slot v (cell.Text t) = itself (Some (cell.Text t))
 bound_cell_stays slot v (cell.Range r) = itself (Some (cell.Range r))
 bound_cell_stays slot v (cell.Tuple xs) = itself (Some (cell.Tuple xs))
@@ -301,6 +309,7 @@ bound_cell_stays slot v (cell.List xs) = itself (Some (cell.List xs))
 bound_cell_stays slot v (cell.Dict es) = itself (Some (cell.Dict es))
 bound_cell_stays slot v (cell.Func f) = itself (Some (cell.Func f))
 bound_cell_stays slot v (cell.Bound m w) = itself (Some (cell.Bound m w))
+bound_cell_stays slot v (cell.Struct fs) = itself (Some (cell.Struct fs))
 
 pub bound_stays : (slot : ℕ) (v : Value) (e : HeapCell) → CellStays (Some e.cell) (Some (bound_cell slot v e.cell))
 bound_stays slot v e = bound_cell_stays slot v e.cell
@@ -376,6 +385,7 @@ cell_follows s c at atoms (Some (cell.Tuple t)) before index x d h w q r = cc
 cell_follows s c at atoms (Some (cell.Func t)) before index x d h w q r = cc
 cell_follows s c at atoms (Some (cell.Frame t)) before index x d h w q r = cc
 cell_follows s c at atoms (Some (cell.Bound m v)) before index x d h w q r = cc
+cell_follows s c at atoms (Some (cell.Struct t)) before index x d h w q r = cc
 cell_follows s c at atoms None before index x d h w q r = cc
 
 changed_other : (f : HeapCell → HeapCell) (cells : List HeapCell) (at i : ℕ) → (i ≡ at → ⊥) → cell_at (changed_at f cells at) i ≡ cell_at cells i
@@ -400,6 +410,9 @@ module _ (c : Change) (place : Option ℕ) (x : Option Value) (d : Cell) where
 
   no_tuple : (o : Option Cell) (xs : List Value) → change_cell c place o ≡ Ok (x, d) → o ≡ Some (cell.Tuple xs) → ⊥
   no_tuple o xs w h = let k : change_cell c place (Some (cell.Tuple xs)) ≡ Ok (x, d) = subst (λ p. change_cell c place p ≡ Ok (x, d)) h w in cc
+
+  no_struct : (o : Option Cell) (fs : Fields) → change_cell c place o ≡ Ok (x, d) → o ≡ Some (cell.Struct fs) → ⊥
+  no_struct o fs w h = let k : change_cell c place (Some (cell.Struct fs)) ≡ Ok (x, d) = subst (λ p. change_cell c place p ≡ Ok (x, d)) h w in cc
 
   some_cell : (o : Option Cell) → change_cell c place o ≡ Ok (x, d) → (b : Cell) × (o ≡ Some b)
   some_cell (Some b) w = (b, refl)
@@ -426,6 +439,7 @@ put_indexed home cells indexes new at c place atoms x d h k r w = record {
       home = refl;
       texts = λ i y q. kept (cell.Text y) (no_text c place x d (cell_at cells at) y w) i q;
       tuples = λ i ys q. kept (cell.Tuple ys) (no_tuple c place x d (cell_at cells at) ys w) i q;
+      structs = λ i fs q. kept (cell.Struct fs) (no_struct c place x d (cell_at cells at) fs w) i q;
     }
 
     by : (i : ℕ) (index : List (List Atom)) → index_at new i ≡ Some index → (b : Bool) → nat_eq i at ≡ b → IsIndexed (store home (changed_at (put_in d) cells at)) (cell_at (changed_at (put_in d) cells at) i) index
@@ -484,6 +498,7 @@ place_either seen key (Some (cell.List xs)) = refl
 place_either seen key (Some (cell.Func f)) = refl
 place_either seen key (Some (cell.Frame f)) = refl
 place_either seen key (Some (cell.Bound m v)) = refl
+place_either seen key (Some (cell.Struct fs)) = refl
 place_either seen key None = refl
 
 -- the indexes at their addresses
@@ -572,6 +587,7 @@ value_found seen key (Some (cell.List t)) place h = nothing seen key place
 value_found seen key (Some (cell.Func t)) place h = nothing seen key place
 value_found seen key (Some (cell.Frame t)) place h = nothing seen key place
 value_found seen key (Some (cell.Bound m v)) place h = nothing seen key place
+value_found seen key (Some (cell.Struct t)) place h = nothing seen key place
 value_found seen key None place h = nothing seen key place
 
 -- a pair of a value and the value that another dictionary has for its key

@@ -8,6 +8,7 @@ pub mod Keys
 pub mod Places
 pub mod Rows
 pub mod Store
+pub mod Structs
 pub mod Tables
 pub mod Walks
 pub mod Writing

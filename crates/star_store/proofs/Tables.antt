@@ -16,6 +16,7 @@ use Rattle.star_store.specs.declared.values.HeapCell.{HeapCell}
 use Rattle.star_store.specs.declared.content.Atom.{Atom}
 use Rattle.star_store.specs.declared.content.Atom.TheVariants as atom
 use Rattle.star_store.specs.Content.{content, content_cell, content_each, join, same_atom, same_content}
+use Rattle.star_store.specs.Fields.{names_of, values_of}
 use Rattle.star_store.specs.Index.{Covers, Shows, far_home, is_far, is_within, place_by, place_told}
 use Rattle.star_store.specs.Key.{key_levels}
 use Rattle.star_store.specs.Scalars.{contents_alike}
@@ -54,6 +55,7 @@ among_is look atoms home row r (atom.Bool b ∷ ks) = none_passes (λ at. pointw
 among_is look atoms home row r (atom.Int n ∷ ks) = none_passes (λ at. pointwise same_atom (atom.Far home at ∷ []) (atom.Int n ∷ ks)) row (λ at. refl)
 among_is look atoms home row r (atom.Text t ∷ ks) = none_passes (λ at. pointwise same_atom (atom.Far home at ∷ []) (atom.Text t ∷ ks)) row (λ at. refl)
 among_is look atoms home row r (atom.Row n ∷ ks) = none_passes (λ at. pointwise same_atom (atom.Far home at ∷ []) (atom.Row n ∷ ks)) row (λ at. refl)
+among_is look atoms home row r (atom.Names ns ∷ ks) = none_passes (λ at. pointwise same_atom (atom.Far home at ∷ []) (atom.Names ns ∷ ks)) row (λ at. refl)
 among_is look atoms home row r (atom.Far h a ∷ b ∷ ks) = none_passes (λ at. pointwise same_atom (atom.Far home at ∷ []) (atom.Far h a ∷ b ∷ ks)) row (λ at. and_false (same_atom (atom.Far home at) (atom.Far h a)))
 among_is look atoms home row r (atom.Far h a ∷ []) = among_far home row h a (same_content (Some atoms) (content look key_levels (value.Ref home a))) (r a) ∙ by (nat_eq home h) refl
   where
@@ -109,6 +111,7 @@ module _ (home : ℕ) (cells : List HeapCell) (look later : Value → Option Cel
 
   cell_alike : (n : ℕ) → Alike n → (o : Option Cell) → ((d : Cell) → o ≡ Some d → is_closed_cell home d ≡ true) → content_cell (content look n) o ≡ content_cell (content later n) o
   cell_alike n a (Some (cell.Tuple xs)) f = ap (join (Some (atom.Row (length xs) ∷ []))) (items_alike n a xs (f (cell.Tuple xs) refl))
+  cell_alike n a (Some (cell.Struct fs)) f = ap (join (Some (atom.Names (names_of fs) ∷ []))) (ap (join (Some (atom.Row (length (values_of fs)) ∷ []))) (items_alike n a (values_of fs) (f (cell.Struct fs) refl)))
   cell_alike n a _ f = refl
 
   contents_alike_at : (n : ℕ) → Alike n
@@ -311,6 +314,7 @@ from_any_is look atoms homes (atom.Bool b ∷ ks) e = other_files look atoms hom
 from_any_is look atoms homes (atom.Int n ∷ ks) e = other_files look atoms homes (atom.Int n ∷ ks) (λ h. refl)
 from_any_is look atoms homes (atom.Text t ∷ ks) e = other_files look atoms homes (atom.Text t ∷ ks) (λ h. refl)
 from_any_is look atoms homes (atom.Row n ∷ ks) e = other_files look atoms homes (atom.Row n ∷ ks) (λ h. refl)
+from_any_is look atoms homes (atom.Names ns ∷ ks) e = other_files look atoms homes (atom.Names ns ∷ ks) (λ h. refl)
 from_any_is look atoms homes (atom.Far h a ∷ b ∷ ks) e = other_files look atoms homes (atom.Far h a ∷ b ∷ ks) (λ i. refl)
 from_any_is look atoms homes (atom.Far h a ∷ []) e =
     asked homes h (same_content (Some atoms) (content look key_levels (value.Ref h a)))

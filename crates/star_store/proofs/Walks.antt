@@ -9,7 +9,8 @@ use Rattle.star_store.specs.declared.content.Atom.{Atom}
 use Rattle.star_store.specs.declared.content.Atom.TheVariants as atom
 use Rattle.star_store.specs.declared.content.Scalar.{Scalar}
 use Rattle.star_store.specs.declared.content.Scalar.TheVariants as scalar
-use Rattle.star_store.specs.Content.{atom_in, content, content_cell, content_each, content_value, join, only_atom, same_atom, same_content}
+use Rattle.star_store.specs.Content.{atom_in, content, content_cell, content_each, content_row, content_value, join, only_atom, same_atom, same_content}
+use Rattle.star_store.specs.Fields.{names_of, values_of}
 use Rattle.star_store.specs.Key.{key_levels, place_of, same_key}
 use Rattle.star_store.specs.Scalars.{is_only, scalar_atom}
 use Rattle.star_store.proofs.Contents.{and_true, content_at, false_and, only_atom_is, same_keys}
@@ -26,10 +27,21 @@ row_apart : (x : Scalar) (n : ℕ) (o : Option (List Atom)) → same_content (So
 row_apart x n (Some ys) = false_and (same_atom (scalar_atom x) (atom.Row n)) (pointwise same_atom [] ys) (no_row x n)
 row_apart x n None = refl
 
+no_names : (x : Scalar) (ns : List (List ℕ)) → same_atom (scalar_atom x) (atom.Names ns) ≡ false
+no_names scalar.Nothing ns = refl
+no_names (scalar.Bool b) ns = refl
+no_names (scalar.Int m) ns = refl
+no_names (scalar.Text t) ns = refl
+
+struct_apart : (x : Scalar) (ns : List (List ℕ)) (o : Option (List Atom)) → same_content (Some (scalar_atom x ∷ [])) (join (Some (atom.Names ns ∷ [])) o) ≡ false
+struct_apart x ns (Some ys) = false_and (same_atom (scalar_atom x) (atom.Names ns)) (pointwise same_atom [] ys) (no_names x ns)
+struct_apart x ns None = refl
+
 -- the contents of a scalar and of a cell
 in_cell : (f : Value → Option (List Atom)) (x : Scalar) (c : Option Cell) → same_content (Some (scalar_atom x ∷ [])) (content_cell f c) ≡ is_only x (atom_in c)
 in_cell f x (Some (cell.Text t)) = and_true (same_atom (scalar_atom x) (atom.Text t))
 in_cell f x (Some (cell.Tuple xs)) = row_apart x (length xs) (content_each f xs)
+in_cell f x (Some (cell.Struct fs)) = struct_apart x (names_of fs) (content_row f (values_of fs))
 in_cell f x _ = refl
 
 in_value : (look : Value → Option Cell) (f : Value → Option (List Atom)) (x : Scalar) (v : Value) → same_content (Some (scalar_atom x ∷ [])) (content_value look f v) ≡ is_only x (only_atom look v)

@@ -9,6 +9,7 @@ use Rattle.star_store.specs.declared.values.Cell.TheVariants as cell
 use Rattle.star_store.specs.declared.content.Atom.{Atom}
 use Rattle.star_store.specs.declared.content.Atom.TheVariants as atom
 use Rattle.star_store.specs.contracts.content.AtomPartialEq.TheImpl as atom_eq
+use Rattle.star_store.specs.Fields.{Fields, names_of, values_of}
 use Rattle.star_store.specs.Key.{is_key, same_key}
 
 -- one content and then another, if both are there
@@ -25,10 +26,11 @@ content_each f (x ∷ xs) = join (f x) (content_each f xs)
 abbrev pub content_row : (Value → Option (List Atom)) → List Value → Option (List Atom)
 content_row f xs = join (Some (atom.Row (length xs) ∷ [])) (content_each f xs)
 
--- a string is one atom, and a tuple is a row
+-- a string is one atom, a tuple is a row, and a struct its names and the row of its values
 abbrev pub content_cell : (Value → Option (List Atom)) → Option Cell → Option (List Atom)
 content_cell f (Some (cell.Text t)) = Some (atom.Text t ∷ [])
 content_cell f (Some (cell.Tuple xs)) = content_row f xs
+content_cell f (Some (cell.Struct fs)) = join (Some (atom.Names (names_of fs) ∷ [])) (content_row f (values_of fs))
 content_cell f _ = None
 
 -- None, bools and ints are one atom
@@ -44,7 +46,7 @@ abbrev pub atom_in : Option Cell → Option Atom
 atom_in (Some (cell.Text t)) = Some (atom.Text t)
 atom_in _ = None
 
--- the one atom of a key that is not a tuple; a tuple has none, and neither has a value that is not a key
+-- the one atom of a key that is not a tuple or a struct; these have none, and neither has a value that is not a key
 abbrev pub only_atom : (Value → Option Cell) → Value → Option Atom
 only_atom look value.NoneValue = Some atom.Nothing
 only_atom look (value.Bool b) = Some (atom.Bool b)
@@ -65,7 +67,7 @@ after xs o = option_map (λ ks. xs ++ ks) o
 abbrev pub IsPut : List Atom → Option (List Atom) → List Atom → Bool → Type 0
 IsPut old o new whole = after old o ≡ (if whole then Some new else None)
 
--- the content of a key that is not a tuple
+-- the content of a key that is not a tuple or a struct
 abbrev pub atom_content : (Value → Option Cell) → Value → Option (List Atom)
 atom_content look v = option_map (λ a. a ∷ []) (only_atom look v)
 
@@ -88,12 +90,13 @@ abbrev pub KeysHaveContents : Type 0
 KeysHaveContents =
     (look : Value → Option Cell) (levels : ℕ) (v : Value) → is_key look levels v ≡ is_some (content look levels v)
 
--- each string and tuple that a value leads to by the one, it leads to by the other
+-- each string, tuple and struct that a value leads to by the one, it leads to by the other
 pub record KeepsKeys (look later : Value → Option Cell) : Type 0 where
   pub texts : (v : Value) (t : List ℕ) → look v ≡ Some (cell.Text t) → later v ≡ Some (cell.Text t)
   pub tuples : (v : Value) (xs : List Value) → look v ≡ Some (cell.Tuple xs) → later v ≡ Some (cell.Tuple xs)
+  pub structs : (v : Value) (fs : Fields) → look v ≡ Some (cell.Struct fs) → later v ≡ Some (cell.Struct fs)
 
--- The law: if strings and tuples stay, contents stay.
+-- The law: if strings, tuples and structs stay, contents stay.
 abbrev pub ContentsStay : Type 0
 ContentsStay = (look later : Value → Option Cell) (levels : ℕ) (v : Value) (atoms : List Atom)
     → KeepsKeys look later → content look levels v ≡ Some atoms → content later levels v ≡ Some atoms

@@ -8,6 +8,7 @@ use Rattle.star_store.specs.declared.values.Value.TheVariants as value
 use Rattle.star_store.specs.declared.values.Cell.{Cell}
 use Rattle.star_store.specs.declared.values.Cell.TheVariants as cell
 use Rattle.star_store.specs.declared.fault.StoreFault.TheVariants.{Deep}
+use Rattle.star_store.specs.Fields.{Fields, names_of, same_names, values_of}
 use Rattle.star_store.specs.Names.{built_in_number}
 use Rattle.star_store.specs.Spend.{Spend, Lacks, answer, visited, all_places}
 use Rattle.star_store.specs.Index.{entries_of}
@@ -50,6 +51,11 @@ abbrev pub same_entries : (Value → Option Cell) → (Value → Value → Spend
 same_entries look f xs ys =
     if nat_eq (length xs) (length ys) then all_places (same_entry look f xs ys) (length xs) 0 else answer false
 
+-- structs: their names first, then the values in their order, up to the first difference
+abbrev pub same_fields : (Value → Value → Spend Bool) → Fields → Fields → Spend Bool
+same_fields f s t =
+    if same_names (names_of s) (names_of t) then same_items f (values_of s) (values_of t) else answer false
+
 -- two cells, which may be one; functions and bound methods are equal if they are one cell
 abbrev pub same_cells : (Value → Option Cell) → (Value → Value → Spend Bool) → Bool → Option Cell → Option Cell
     → Spend Bool
@@ -60,6 +66,7 @@ same_cells look f one (Some (cell.List xs)) (Some (cell.List ys)) = same_items f
 same_cells look f one (Some (cell.Dict xs)) (Some (cell.Dict ys)) = same_entries look f xs ys
 same_cells look f one (Some (cell.Func g)) (Some (cell.Func h)) = answer one
 same_cells look f one (Some (cell.Bound m x)) (Some (cell.Bound n y)) = answer one
+same_cells look f one (Some (cell.Struct s)) (Some (cell.Struct t)) = same_fields f s t
 same_cells look f one _ _ = answer false
 
 -- two values; values of different types are unequal

@@ -1,5 +1,5 @@
 -- Keys: which values are hashable, which two are the same key, and the place of an entry by its key.
-use Rattle.std.specs.Prelude.{ℕ, zero, suc, ◌+◌, nat_eq, Bool, true, false, List, [], ◌∷◌, length, Option, Some, slice_get, if◌then◌else◌, Result, Ok, Err}
+use Rattle.std.specs.Prelude.{ℕ, zero, suc, ◌+◌, nat_eq, Bool, true, false, ◌&&◌, List, [], ◌∷◌, length, Option, Some, slice_get, if◌then◌else◌, Result, Ok, Err}
 use Rattle.std.specs.List.{list_all, position}
 use Rattle.std.specs.Option.{option_and_then, option_map}
 use Rattle.std.specs.Ordering.{int_eq}
@@ -11,16 +11,18 @@ use Rattle.star_store.specs.declared.values.Cell.{Cell}
 use Rattle.star_store.specs.declared.values.Cell.TheVariants as cell
 use Rattle.star_store.specs.declared.fault.StoreFault.{StoreFault}
 use Rattle.star_store.specs.declared.fault.StoreFault.TheVariants.{BadType, Deep}
+use Rattle.star_store.specs.Fields.{Fields, names_of, same_names, values_of}
 use Rattle.star_store.specs.Spend.{Spend, Lacks, answer, refuse, spend_then, visited}
 
--- a key's tuples nest at most 400 deep, and a value that is not a tuple may be inside
+-- a key's tuples and structs nest at most 400 deep, and another value may be inside
 abbrev pub key_levels : ℕ
 key_levels = 401
 
--- strings are keys, and tuples of keys
+-- strings are keys, and tuples and structs of keys
 abbrev pub key_cell : (Value → Bool) → Option Cell → Bool
 key_cell f (Some (cell.Text t)) = true
 key_cell f (Some (cell.Tuple xs)) = list_all f xs
+key_cell f (Some (cell.Struct fs)) = list_all f (values_of fs)
 key_cell f _ = false
 
 -- None, bools and ints are keys
@@ -55,10 +57,15 @@ abbrev pub same_key_items : (Value → Value → Bool) → List Value → List V
 same_key_items f xs ys =
     if nat_eq (length xs) (length ys) then all_pass (same_key_place f xs ys) (length xs) 0 else false
 
--- strings with the same bytes, and tuples with the same keys in order
+-- structs with the same names, and the same keys as values
+abbrev pub same_key_fields : (Value → Value → Bool) → Fields → Fields → Bool
+same_key_fields f s t = same_names (names_of s) (names_of t) && same_key_items f (values_of s) (values_of t)
+
+-- strings with the same bytes, tuples with the same keys in order, and structs
 abbrev pub same_key_cell : (Value → Value → Bool) → Option Cell → Option Cell → Bool
 same_key_cell f (Some (cell.Text t)) (Some (cell.Text u)) = pointwise nat_eq t u
 same_key_cell f (Some (cell.Tuple xs)) (Some (cell.Tuple ys)) = same_key_items f xs ys
+same_key_cell f (Some (cell.Struct s)) (Some (cell.Struct t)) = same_key_fields f s t
 same_key_cell f _ _ = false
 
 -- values of one type with the same content
@@ -87,10 +94,11 @@ abbrev pub check_each : (Value → Spend (Unit {0})) → List Value → Spend (U
 check_each f [] = answer tt
 check_each f (x ∷ xs) = λ left. spend_then (f x left) (λ _. check_each f xs)
 
--- strings, and tuples whose items pass
+-- strings, and tuples and structs whose items pass
 abbrev pub check_cell : (Value → Spend (Unit {0})) → Option Cell → Spend (Unit {0})
 check_cell f (Some (cell.Text t)) = answer tt
 check_cell f (Some (cell.Tuple xs)) = check_each f xs
+check_cell f (Some (cell.Struct fs)) = check_each f (values_of fs)
 check_cell f _ = refuse BadType
 
 -- None, bools and ints pass

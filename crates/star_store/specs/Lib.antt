@@ -4,6 +4,7 @@ pub mod Atoms
 pub mod Content
 pub mod Defaults
 pub mod Equal
+pub mod Fields
 pub mod Index
 pub mod Key
 pub mod Names

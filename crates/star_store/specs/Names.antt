@@ -6,7 +6,7 @@ use Rattle.star_store.specs.declared.names.Method.{Method}
 use Rattle.star_store.specs.declared.names.Method.TheVariants as method
 use Rattle.star_strings.specs.Table as strings
 
--- the place among the built-in functions in order of their names
+-- the place among the built-in functions: those of the core come first, each in order of their names
 abbrev pub built_in_number : BuiltIn → ℕ
 built_in_number built_in.Abs = 0
 built_in_number built_in.All = 1
@@ -29,6 +29,12 @@ built_in_number built_in.Str = 17
 built_in_number built_in.Tuple = 18
 built_in_number built_in.Type = 19
 built_in_number built_in.Zip = 20
+built_in_number built_in.Chr = 21
+built_in_number built_in.Dir = 22
+built_in_number built_in.Getattr = 23
+built_in_number built_in.Hasattr = 24
+built_in_number built_in.Ord = 25
+built_in_number built_in.Struct = 26
 
 -- the name of a built-in function
 abbrev pub built_in_name : BuiltIn → List ℕ
@@ -53,6 +59,12 @@ built_in_name built_in.Str = codes "str"
 built_in_name built_in.Tuple = codes "tuple"
 built_in_name built_in.Type = codes "type"
 built_in_name built_in.Zip = codes "zip"
+built_in_name built_in.Chr = codes "chr"
+built_in_name built_in.Dir = codes "dir"
+built_in_name built_in.Getattr = codes "getattr"
+built_in_name built_in.Hasattr = codes "hasattr"
+built_in_name built_in.Ord = codes "ord"
+built_in_name built_in.Struct = codes "struct"
 
 -- the names of a method: the name of its receiver's type, and its own
 abbrev pub method_names : Method → List ℕ × List ℕ

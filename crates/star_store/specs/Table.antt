@@ -10,6 +10,7 @@ use Rattle.star_store.specs.declared.values.HeapCell.{HeapCell}
 use Rattle.star_store.specs.declared.content.Atom.{Atom}
 use Rattle.star_store.specs.declared.content.Atom.TheVariants as atom
 use Rattle.star_store.specs.Content.{content, same_atom, same_content}
+use Rattle.star_store.specs.Fields.{values_of}
 use Rattle.star_store.specs.Index.{Shows, place_by}
 use Rattle.star_store.specs.Key.{key_levels}
 
@@ -18,12 +19,13 @@ abbrev pub is_home : ℕ → Value → Bool
 is_home home (value.Ref h at) = nat_eq h home
 is_home home _ = true
 
--- whether a cell is not a tuple with a value that another file made
+-- whether a cell is not a tuple or a struct with a value that another file made
 abbrev pub is_closed_cell : ℕ → Cell → Bool
 is_closed_cell home (cell.Tuple xs) = list_all (is_home home) xs
+is_closed_cell home (cell.Struct fs) = list_all (is_home home) (values_of fs)
 is_closed_cell home _ = true
 
--- whether no tuple of a store has a value that another file made
+-- whether no tuple or struct of a store has a value that another file made
 abbrev pub is_closed : ℕ → List HeapCell → Bool
 is_closed home cells = list_all (λ e. is_closed_cell home e.cell) cells
 

@@ -136,6 +136,22 @@ same_address _ _ = false
 abbrev pub on_path : Value → List Value → Bool
 on_path v path = list_any (same_address v) path
 
+-- a name, a sign and a value
+abbrev pub say_named : (Value → Say) → Option (List ℕ × Value) → Say
+say_named f (Some e) = then_say (say e.0) (then_say (say (codes " = ")) (f e.1))
+say_named f None = say []
+
+-- the field at a place
+abbrev pub say_field : (Value → Say) → List (List ℕ × Value) → ℕ → Say
+say_field f fs i = then_say (say (separator i)) (say_named f (slice_get fs i))
+
+-- fields, with commas
+abbrev pub say_fields : (Value → Say) → List (List ℕ × Value) → Say
+say_fields f fs = all_said (say_field f fs) (length fs) 0
+
+abbrev pub say_struct : (Value → Say) → List (List ℕ × Value) → Say
+say_struct f fs = then_say (say (codes "struct(")) (then_say (say_fields f fs) (say (codes ")")))
+
 abbrev pub say_tuple : (Value → Say) → List Value → Say
 say_tuple f xs = then_say (say (codes "(")) (then_say (say_items f xs) (say (tuple_end xs)))
 
@@ -165,6 +181,7 @@ say_cell f path v (Some (cell.Dict es)) = say_dict f path v es
 say_cell f path v (Some (cell.Func g)) = say_parts (function_parts g.name)
 say_cell f path v (Some (cell.Frame g)) = say []
 say_cell f path v (Some (cell.Bound m x)) = say_parts (method_parts m)
+say_cell f path v (Some (cell.Struct fs)) = say_struct (f path) fs
 say_cell f path v None = say []
 
 abbrev pub say_value : (Value → Option Cell) → (List Value → Value → Say) → List Value → Value → Say

@@ -1,9 +1,9 @@
 //! The contents of keys: hashed and compared without a store.
 //!
-//! The content of a key is a flat row of atoms, in which a tuple says how many items follow: one allocation, compared
-//! and hashed like any `Vec` of an enum. A key that is not a tuple needs no allocation: its content is its one atom
-//! (`KeyContent`), and a look-up asks the index by the key itself (`ScalarKey`), which hashes alike (`hashed_alike`). A
-//! copy of its string would cost two atomic additions.
+//! The content of a key is a flat row of atoms, in which a tuple says how many items follow, and a struct its names:
+//! one allocation, compared and hashed like any `Vec` of an enum. Another key needs no allocation: its content is its
+//! one atom (`KeyContent`), and a look-up asks the index by the key itself (`ScalarKey`), which hashes alike
+//! (`hashed_alike`). A copy of its string would cost two atomic additions.
 
 ghost use Rattle.std.specs.Prelude.{◌≡◌, ◌∷◌, [], IfOk};
 ghost use Rattle.std.specs.Cmp.{partial_equiv_from_equiv};
@@ -12,7 +12,7 @@ ghost use Rattle.std.specs.Cmp.Rules.{hashing};
 ghost use Rattle.std.specs.Hash as fed;
 ghost use Rattle.std.specs.Option.{option_map};
 ghost use Rattle.std.proofs.Common.{rules};
-ghost use Rattle.star_store.specs.Content.{ContentsStay, IsPut, KeysHaveContents, SameKeysHaveOneContent, atom_content, content, only_atom, same_atom};
+ghost use Rattle.star_store.specs.Content.{ContentsStay, IsPut, KeysHaveContents, SameKeysHaveOneContent, atom_content, content, content_row, only_atom, same_atom};
 ghost use Rattle.star_store.specs.Index.{far_home};
 ghost use Rattle.star_store.specs.Key.{key_levels};
 ghost use Rattle.star_store.specs.Scalars.{content_hashed, contents_alike, hashed, hashed_alike, hashed_as_equal, is_of, is_only, of_alike, scalar_atom};
@@ -20,8 +20,9 @@ ghost use Rattle.star_store.specs.Store.{look};
 ghost use Rattle.star_store.specs.declared.content.Atom.TheVariants as atom;
 
 use crate::arena::{Arena, Homes};
+use crate::fields::Names;
 use crate::key::KEY_LEVELS;
-use crate::values::{Cell, Value};
+use crate::values::{Cell, Value, Values};
 use indexmap::Equivalent;
 use star_text::Text;
 use std::alloc::{AllocError, Global};
@@ -29,8 +30,9 @@ use std::hash::{Hash, Hasher};
 use std::marker::Model;
 use std::slice;
 
-/// A part of a key's content: None, a bool, an int, a string, or how many items a tuple has, whose contents follow.
-/// `Far` is in no content: an index has it for a key that another file made, by the number of its value.
+/// A part of a key's content: None, a bool, an int, a string, how many items a tuple has, whose contents follow, or the
+/// names of a struct, whose values follow as a tuple. `Far` is in no content: an index has it for a key that another
+/// file made, by the number of its value.
 #[derive(PartialEq, Eq, Hash, Drop)]
 pub enum Atom {
     Nothing,
@@ -39,6 +41,7 @@ pub enum Atom {
     Text(Text),
     Row(usize),
     Far { home: u32, at: u32 },
+    Names(Names),
 }
 
 /// The content of a key, which may be hashed and compared with no store beside it.
@@ -256,10 +259,10 @@ pub fn content(
     Ok(Some(KeyContent { atoms }))
 }
 
-/// Adds the content of a key, and says whether there is one. The content of a tuple is the number of its items, and
-/// then their contents.
+/// Adds the content of a key, and says whether there is one. A tuple is a row, and a struct its names and the row of
+/// its values.
 #[cycle(put_content)]
-#[tactic(auto, using(crate::proofs::Contents::content_at, crate::proofs::Contents::content_at_none, crate::proofs::Contents::row_added))]
+#[tactic(auto, using(crate::proofs::Contents::content_at, crate::proofs::Contents::content_at_none, crate::proofs::Contents::head_added))]
 fn put_content<'a>(
     arena: &'a Arena,
     homes: &'a Homes<'a>,
@@ -275,19 +278,38 @@ fn put_content<'a>(
     }
     match value {
         Value::Ref { .. } => match arena.read(homes, value) {
-            Some(Cell::Tuple(items)) => {
-                atoms.push(Atom::Row(items.len()))?;
-                for item in items.as_slice() {
-                    if !put_content(arena, homes, levels - 1, *item, atoms)? {
-                        return Ok(false);
-                    }
-                }
-                Ok(true)
+            Some(Cell::Tuple(items)) => put_row(arena, homes, levels - 1, items, atoms),
+            Some(Cell::Struct(fields)) => {
+                let fields = fields.get();
+                atoms.push(Atom::Names(fields.share_names()?))?;
+                put_row(arena, homes, levels - 1, fields.values(), atoms)
             }
             _ => put_atom(arena, homes, value, atoms),
         },
         _ => put_atom(arena, homes, value, atoms),
     }
+}
+
+/// Adds the content of a row of keys: the number of its items, and then their contents.
+#[cycle(put_content)]
+#[tactic(auto, using(crate::proofs::Contents::head_added))]
+fn put_row<'a>(
+    arena: &'a Arena,
+    homes: &'a Homes<'a>,
+    levels: u32,
+    items: &'a Values,
+    atoms: &mut Vec<Atom>,
+) -> Result<bool, AllocError>
+    ensures { IfOk result (λ whole. IsPut atoms.old.items
+        (content_row (content (look arena.now homes.now) levels) items.now) atoms.new.items whole) }
+{
+    atoms.push(Atom::Row(items.len()))?;
+    for item in items.as_slice() {
+        if !put_content(arena, homes, levels, *item, atoms)? {
+            return Ok(false);
+        }
+    }
+    Ok(true)
 }
 
 /// Adds the one atom of the content of a key that is not a tuple, and returns whether there is one.
@@ -318,8 +340,8 @@ pub fn keys_have_contents()
     ensures { KeysHaveContents }
 {}
 
-/// As long as strings and tuples stay, contents stay: new cells change none, and neither does a write of a list, a
-/// dictionary or a frame.
+/// As long as strings, tuples and structs stay, contents stay: new cells change none, and neither does a write of a
+/// list, a dictionary or a frame.
 pub fn contents_stay()
     ensures { ContentsStay }
 {}

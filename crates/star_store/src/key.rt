@@ -6,18 +6,19 @@ ghost use Rattle.star_store.specs.Content.{only_atom};
 ghost use Rattle.star_store.specs.Scalars.{is_only};
 ghost use Rattle.star_store.specs.Spend.{Spends};
 ghost use Rattle.star_store.specs.Store.{look};
-ghost use Rattle.star_store.specs.Key.{check, is_key, key_levels, place_of, same_key, same_key_items, value_of};
+ghost use Rattle.star_store.specs.Key.{check, check_each, is_key, key_levels, place_of, same_key, same_key_fields, same_key_items, value_of};
 
 use crate::arena::{Arena, Homes};
 use crate::budget::Budget;
 use crate::content::{Scalar, is_scalar, scalar_key};
 use crate::fault::StoreFault;
+use crate::fields::Fields;
 use crate::values::{Cell, Entries, Value, Values};
 
-/// A key's tuples nest at most 400 deep, and a value that is not a tuple may be inside.
+/// A key's tuples and structs nest at most 400 deep, and another value may be inside.
 pub(crate) const KEY_LEVELS: u32 = 401;
 
-/// Whether a value is a key: None, a bool, an int, a string or a tuple of keys.
+/// Whether a value is a key: None, a bool, an int, a string, or a tuple or struct of keys.
 pub fn may_be_key(arena: &Arena, homes: &Homes, value: Value) -> bool
     ensures { result ≡ is_key (look arena.now homes.now) key_levels value }
 {
@@ -37,6 +38,9 @@ fn is_key<'a>(arena: &'a Arena, homes: &'a Homes<'a>, levels: u32, value: Value)
         Value::Ref { .. } => match arena.read(homes, value) {
             Some(Cell::Text(_)) => true,
             Some(Cell::Tuple(items)) => all_keys(arena, homes, levels - 1, items),
+            Some(Cell::Struct(fields)) => {
+                all_keys(arena, homes, levels - 1, fields.get().values())
+            }
             _ => false,
         },
         Value::Builtin(_) => false,
@@ -74,6 +78,9 @@ fn same_key<'a>(arena: &'a Arena, homes: &'a Homes<'a>, levels: u32, x: Value, y
                 (Some(Cell::Tuple(xs)), Some(Cell::Tuple(ys))) => {
                     same_key_items(arena, homes, levels - 1, xs, ys)
                 }
+                (Some(Cell::Struct(s)), Some(Cell::Struct(t))) => {
+                    same_key_fields(arena, homes, levels - 1, s.get(), t.get())
+                }
                 _ => false,
             }
         }
@@ -106,8 +113,22 @@ fn same_key_items<'a>(
     true
 }
 
-/// Checks that a value is a key: None, a bool, an int, a string or a tuple of keys, else `BadType`. It visits the value
-/// and, in tuples, the items: a visit opens a level (else `Deep`) and then pays a step (else `Steps`).
+#[cycle(same_key)]
+fn same_key_fields<'a>(
+    arena: &'a Arena,
+    homes: &'a Homes<'a>,
+    levels: u32,
+    s: &'a Fields,
+    t: &'a Fields,
+) -> bool
+    ensures { result ≡ same_key_fields (same_key (look arena.now homes.now) levels) s.now t.now }
+{
+    s.has_names_of(t) && same_key_items(arena, homes, levels, s.values(), t.values())
+}
+
+/// Checks that a value is a key: None, a bool, an int, a string, or a tuple or struct of keys, else `BadType`. It
+/// visits the value and, in tuples and structs, the items: a visit opens a level (else `Deep`) and then pays a step
+/// (else `Steps`).
 pub fn check_key(
     arena: &Arena,
     homes: &Homes,
@@ -145,16 +166,32 @@ fn check<'a>(
         Value::NoneValue | Value::Bool(_) | Value::Int(_) => Ok(()),
         Value::Ref { .. } => match arena.read(homes, value) {
             Some(Cell::Text(_)) => Ok(()),
-            Some(Cell::Tuple(items)) => {
-                for item in items.as_slice() {
-                    check(arena, homes, levels - 1, steps, *item)?;
-                }
-                Ok(())
+            Some(Cell::Tuple(items)) => check_each(arena, homes, levels - 1, steps, items),
+            Some(Cell::Struct(fields)) => {
+                check_each(arena, homes, levels - 1, steps, fields.get().values())
             }
             _ => Err(StoreFault::BadType),
         },
         Value::Builtin(_) => Err(StoreFault::BadType),
     }
+}
+
+#[cycle(check)]
+fn check_each<'a>(
+    arena: &'a Arena,
+    homes: &'a Homes<'a>,
+    levels: u32,
+    steps: &mut u64,
+    items: &'a Values,
+) -> Result<(), StoreFault>
+    ensures answer { Spends (check_each (check (look arena.now homes.now) levels) items.now steps.old) result
+        steps.new }
+    ensures less { steps.new ≤ steps.old }
+{
+    for item in items.as_slice() {
+        check(arena, homes, levels, steps, *item)?;
+    }
+    Ok(())
 }
 
 /// The place of the entry with this key.

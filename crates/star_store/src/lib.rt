@@ -1,8 +1,8 @@
 //! Values, the heap of a module while it runs, and the frozen heaps of published modules.
 //!
 //! - `Value` is None, a bool, an int, a built-in function, or a reference to a `Cell` (a heap object): a string, range,
-//!   tuple, list, dictionary, function, bound method, or a frame of variables. A reference has the number of the file
-//!   whose module made the cell, and the cell's index there.
+//!   tuple, list, dictionary, function, bound method, struct, or a frame of variables. A reference has the number of
+//!   the file whose module made the cell, and the cell's index there.
 //! - `Arena` is the heap, or store, of the running module. Cells are made, read and written, and never freed before the
 //!   run ends. `freeze` turns it into a `Frozen`, which nothing changes any more. `Homes` has the frozen stores that a
 //!   module can reach, by file number.
@@ -13,8 +13,8 @@
 //!   another file made is there under the number of its value, and the `Table` of that file's store says which values
 //!   have a content. Without an index a look-up is a walk, with the same answer. The hashes begin with the arena's seed
 //!   (`seed.rt`).
-//! - `arithmetic` has the operations on ints of 64 bits, `slots` the variables of a frame, `roomy` vectors with free
-//!   places at their front.
+//! - `arithmetic` has the operations on ints of 64 bits, `slots` the variables of a frame, `fields` the names and
+//!   values of a struct, `roomy` vectors with free places at their front.
 //!
 //! Begin at `values.rt`, then `arena.rt` and `arena/write.rt`.
 //!
@@ -31,6 +31,7 @@ pub mod budget;
 pub mod content;
 pub mod defaults;
 pub mod fault;
+pub mod fields;
 mod globals;
 mod index;
 pub mod key;

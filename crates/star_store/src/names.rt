@@ -32,6 +32,13 @@ pub enum BuiltIn {
     Tuple,
     Type,
     Zip,
+    /// From here on those of the extended language.
+    Chr,
+    Dir,
+    Getattr,
+    Hasattr,
+    Ord,
+    Struct,
 }
 
 /// A method, with the type of its receiver.
@@ -70,7 +77,7 @@ pub enum Method {
 }
 
 impl BuiltIn {
-    /// The place among the built-in functions in order of their names.
+    /// The place among the built-in functions: those of the core, in order of their names, come first.
     pub fn number(self) -> u8
         ensures { result ≡ built_in_number self }
     {
@@ -103,6 +110,12 @@ impl BuiltIn {
             BuiltIn::Tuple => "tuple",
             BuiltIn::Type => "type",
             BuiltIn::Zip => "zip",
+            BuiltIn::Chr => "chr",
+            BuiltIn::Dir => "dir",
+            BuiltIn::Getattr => "getattr",
+            BuiltIn::Hasattr => "hasattr",
+            BuiltIn::Ord => "ord",
+            BuiltIn::Struct => "struct",
         }
     }
 }

@@ -1,9 +1,9 @@
 //! `Value`, and the cells that values lead to: strings, ranges, tuples, lists, dictionaries, functions, frames,
-//! methods.
+//! methods, structs.
 //!
 //! A function's cell has its name, so its text needs no program. The parent of a frame is a value, which may lead into
-//! another module's store. Functions and frames are in boxes of their own, since most cells are smaller: a cell takes
-//! 48 bytes instead of 96, and a call one allocation more. Contracts see a box as its content.
+//! another module's store. Functions, frames and structs are in boxes of their own, since most cells are smaller: a
+//! cell takes 48 bytes instead of 96, and a call one allocation more. Contracts see a box as its content.
 //!
 //! A string is a `Text`, which contracts see as its bytes, so it is UTF-8 by its type. Copies share the bytes: a
 //! literal is copied once, from its file, and a run copies none.
@@ -15,6 +15,7 @@ ghost use Rattle.std.specs.Prelude.{◌≡◌, ◌<◌, ◌≤◌, List, Some, [
 ghost use Rattle.std.specs.List.{insert, remove};
 
 use crate::defaults::Defaults;
+use crate::fields::Fields;
 use crate::names::{BuiltIn, Method};
 use crate::range::Range;
 use crate::roomy::FrontGapVec;
@@ -171,6 +172,7 @@ pub enum Cell {
     Func(Boxed<Function>),
     Frame(BoxedFrame),
     Bound(Method, Value),
+    Struct(Boxed<Fields>),
 }
 
 impl Drop for Cell {
@@ -184,6 +186,7 @@ impl Drop for Cell {
             Cell::Func(_) => {}
             Cell::Frame(_) => {}
             Cell::Bound(_, _) => {}
+            Cell::Struct(_) => {}
         }
     }
 }

@@ -4,7 +4,7 @@
 
 ghost use Rattle.std.specs.Prelude.{◌≡◌, ◌≤◌, ◌+◌, IfOk, length, map, slice_get};
 ghost use Rattle.std.specs.Option.{option_map};
-ghost use Rattle.star_strings.specs.Table.{answer_to, line_of, method_name, named, named_from, row_of, shown, work_of};
+ghost use Rattle.star_strings.specs.Table.{answer_to, line_of, method_name, named, named_from, row_of, rows, shown, work_of};
 
 use crate::cases::{Case, Heads};
 use crate::classes::Class;
@@ -319,7 +319,25 @@ fn line_at(rows: &[Line], number: u8) -> Option<Line>
     }
 }
 
+/// The names of some rows.
+fn names_in(alloc: Global, rows: &[Line]) -> Result<Vec<&'static str>, AllocError>
+    ensures { IfOk result (λ names. map (λ n. n.now) names.items ≡ map (λ r. r.row.name) (map line_of rows.now)) }
+{
+    let mut names = Vec::with_capacity(alloc, rows.len())?;
+    for line in rows {
+        names.push(line.entry.name)?;
+    }
+    Ok(names)
+}
+
 impl StringMethod {
+    /// The names of all methods, in the order of the table. The error: an allocation failed.
+    pub fn names(alloc: Global) -> Result<Vec<&'static str>, AllocError>
+        ensures { IfOk result (λ names. map (λ n. n.now) names.items ≡ map (λ r. r.row.name) rows) }
+    {
+        names_in(alloc, &TABLE)
+    }
+
     /// The method with a name.
     #[tactic(auto, unfolding(crate::specs::Table::named))]
     pub fn named(name: &str) -> Option<StringMethod>

@@ -167,6 +167,7 @@ bound_visible hides slot v (cell.List xs) h c = c
 bound_visible hides slot v (cell.Dict es) h c = c
 bound_visible hides slot v (cell.Func f) h c = c
 bound_visible hides slot v (cell.Bound m x) h c = c
+bound_visible hides slot v (cell.Struct fs) h c = c
 
 pub alike_bound : {w : Setting} {k : Veil w} (frame : Value) (slot : ℕ) (v : Value) → IsVisible k.hides v → Alike k Any (storing (bound frame slot v)) (storing (bound frame slot v))
 alike_bound {k = k} frame slot v h = alike_changing (λ e. record e { cell = bound_cell slot v e.cell }) (λ e c. bound_visible k.hides slot v e.cell h c) frame

@@ -11,12 +11,12 @@ use Rattle.star_meaning.specs.declared.given.KeywordArgument.{KeywordArgument}
 use Rattle.star_meaning.specs.Run.{State}
 use Rattle.star_meaning.specs.Program.{Setting}
 use Rattle.star_meaning.specs.Values.{Content, Held, content, text_of}
-use Rattle.star_meaning.specs.Arguments.{EvaluatedArgument, Plain, Named, Star, StarStar, positional_of, named_of, star_of, star_star_of, star_count, take_star, named_entry, before_all, named_entries, names_in, star_star_names, take_names, comes_twice, given, name_key, key_for, positional, with_name, only_one, none_or_one, one_or_two, two, no_value}
+use Rattle.star_meaning.specs.Arguments.{EvaluatedArgument, Plain, Named, Star, StarStar, positional_of, named_of, star_of, star_star_of, star_count, take_star, named_entry, before_all, named_entries, names_in, star_star_names, take_names, comes_twice, given, name_key, key_for, positional, with_name, only_one, none_or_one, one_or_two, two, two_or_three, no_value}
 use Rattle.star_unseen.specs.Veil.{AreVisible, Every, IsVisible, Maybe, VisibleIfThere, PairIsVisible, PairsAreVisible}
 use Rattle.star_unseen.specs.Shelves.{Veil, with_other}
 use Rattle.star_unseen.proofs.Rows.{every_append, every_get, maybe_map}
 use Rattle.star_unseen.proofs.Looks.{ContentIsVisible, visible_content, same_content}
-use Rattle.star_unseen.proofs.Visible.{ArgumentIsVisible, ArgumentsAreVisible, KeywordIsVisible, KeywordsAreVisible, WithMaybe}
+use Rattle.star_unseen.proofs.Visible.{ArgumentIsVisible, ArgumentsAreVisible, KeywordIsVisible, KeywordsAreVisible, TwoWithMaybe, WithMaybe}
 use Rattle.star_unseen.proofs.Alike.{Alike, Any, alike_check, alike_each, alike_fail, alike_finds, alike_give, alike_pay, alike_seeing, alike_then}
 use Rattle.star_unseen.proofs.Values.{alike-count_of, alike-new_text, alike-take_items}
 
@@ -148,6 +148,11 @@ alike-one_or_two k line _ h = alike_fail (Value × Option Value) (WithMaybe k.hi
 pub alike-two : {w : Setting} (k : Veil w) (line : ℕ) (xs : List Value) → AreVisible k.hides xs → Alike k (PairIsVisible k.hides) (two line xs) (two line xs)
 alike-two k line (x ∷ y ∷ []) h = alike_give (PairIsVisible k.hides) (x, y) (h.0, h.1.0)
 alike-two k line _ h = alike_fail (Value × Value) (PairIsVisible k.hides) code.Args line
+
+pub alike-two_or_three : {w : Setting} (k : Veil w) (line : ℕ) (xs : List Value) → AreVisible k.hides xs → Alike k (TwoWithMaybe k.hides) (two_or_three line xs) (two_or_three line xs)
+alike-two_or_three k line (x ∷ y ∷ []) h = alike_give (TwoWithMaybe k.hides) (x, y, None) (h.0, h.1.0, tt)
+alike-two_or_three k line (x ∷ y ∷ z ∷ []) h = alike_give (TwoWithMaybe k.hides) (x, y, Some z) (h.0, h.1.0, h.1.1.0)
+alike-two_or_three k line _ h = alike_fail (Value × Value × Option Value) (TwoWithMaybe k.hides) code.Args line
 
 pub alike-no_value : {w : Setting} (k : Veil w) (line : ℕ) (xs : List Value) → AreVisible k.hides xs → Alike k Any (no_value line xs) (no_value line xs)
 alike-no_value k line [] h = alike_give {A = Unit {0}} Any tt tt

@@ -16,7 +16,8 @@ use Rattle.star_meaning.specs.Run.{State, ◌>>=◌, check}
 use Rattle.star_meaning.specs.Arguments.{positional, only_one, none_or_one}
 use Rattle.star_meaning.specs.Program.{Setting}
 use Rattle.star_meaning.specs.Values.{Content, Truth, Number, Held, content, type_name, new_list}
-use Rattle.star_meaning.specs.BuiltIns.{absolute, call_abs, is_decided, some_item, call_all, call_any, truth_of, call_bool, call_dict, want_start, numbered, call_enumerate, want_separator, joined, print_line, call_print, call_fail, spelled, to_int, call_int, length_in, call_len, taken_from, call_list, call_tuple, call_reversed, best_of, best_in, candidates, call_best, new_range, range_of, is_range_count, call_range, call_repr, call_str, call_type, want_reverse, can_sort, is_before, placed, in_order, turned, sort, call_sorted, least, row_at, call_zip, call_built_in}
+use Rattle.star_meaning.specs.BuiltIns.{absolute, call_abs, is_decided, some_item, call_all, call_any, truth_of, call_bool, call_dict, want_start, numbered, call_enumerate, want_separator, joined, print_line, call_print, call_fail, spelled, to_int, call_int, length_in, call_len, taken_from, call_list, call_tuple, call_reversed, best_of, best_in, candidates, call_best, new_range, range_of, is_range_count, call_range, call_repr, call_str, call_type, want_reverse, can_sort, is_before, turned, sort, call_sorted, least, row_at, call_zip, call_built_in}
+use Rattle.star_meaning.specs.Sorting.{in_order, placed}
 use Rattle.star_unseen.specs.Veil.{AreVisible, Every, Hides, IsVisible, VisibleIfThere}
 use Rattle.star_unseen.specs.Shelves.{Veil, with_other}
 use Rattle.star_unseen.proofs.Rows.{every_append}
@@ -25,6 +26,7 @@ use Rattle.star_unseen.proofs.Visible.{ArgumentsAreVisible}
 use Rattle.star_unseen.proofs.Alike.{Alike, Any, alike_add_line, alike_build, alike_check, alike_collect, alike_content, alike_each, alike_fail, alike_found, alike_give, alike_pay, alike_seeing, alike_then, alike_until}
 use Rattle.star_unseen.proofs.Values.{any_found, alike-want_int, alike-want_bool, alike-want_text, alike-new_int, alike-new_text, alike-new_tuple, alike-new_list, alike-count_of, alike-take_item, alike-take_items, alike-take_all, alike-is_true, alike-compare, alike-repr, alike-str}
 use Rattle.star_unseen.proofs.Arguments.{alike-positional, alike-with_name, alike-only_one, alike-none_or_one, alike-one_or_two}
+use Rattle.star_unseen.proofs.Attributes.{alike-call_chr, alike-call_dir, alike-call_getattr, alike-call_hasattr, alike-call_ord, alike-call_struct}
 use Rattle.star_unseen.proofs.Pairs.{alike-pairs_count, alike-pairs_of, alike-dict_of}
 
 -- ---- rows
@@ -272,3 +274,9 @@ alike-call_built_in k levels line built_in.Str g h = alike-call_str k levels lin
 alike-call_built_in k levels line built_in.Tuple g h = alike-call_tuple k line g h
 alike-call_built_in k levels line built_in.Type g h = alike-call_type k line g h
 alike-call_built_in k levels line built_in.Zip g h = alike-call_zip k line g h
+alike-call_built_in k levels line built_in.Chr g h = alike-call_chr k line g h
+alike-call_built_in k levels line built_in.Dir g h = alike-call_dir k line g h
+alike-call_built_in k levels line built_in.Getattr g h = alike-call_getattr k line g h
+alike-call_built_in k levels line built_in.Hasattr g h = alike-call_hasattr k line g h
+alike-call_built_in k levels line built_in.Ord g h = alike-call_ord k line g h
+alike-call_built_in k levels line built_in.Struct g h = alike-call_struct k line g h

@@ -21,7 +21,7 @@ use Rattle.star_unseen.proofs.Alike.{Alike, Any, alike_build, alike_check, alike
 use Rattle.star_unseen.proofs.Calls.{alike-call_node}
 use Rattle.star_unseen.proofs.Visible.{SiteIsVisible}
 use Rattle.star_unseen.proofs.Comprehensions.{alike-dict_comprehension, alike-list_comprehension}
-use Rattle.star_unseen.proofs.Methods.{alike-attribute}
+use Rattle.star_unseen.proofs.Attributes.{alike-attribute}
 use Rattle.star_unseen.proofs.Operators.{alike-comparison, alike-operate, alike-prefix, visible-with_entry, same-with_entry}
 use Rattle.star_unseen.proofs.Parts.{AllAlike, VariablesAlike, alike_every}
 use Rattle.star_unseen.proofs.Subscript.{alike-index, alike-slice}

@@ -1,5 +1,6 @@
 mod Alike
 mod Arguments
+mod Attributes
 mod Binding
 mod BuiltIns
 mod Calls

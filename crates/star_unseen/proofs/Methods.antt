@@ -2,29 +2,22 @@
 use Rattle.std.proofs.Common.{codes, ℕ, List, nat_eq, true, false}
 use Rattle.std.specs.List.{starts_with, ends_with}
 use Rattle.star_store.specs.declared.values.Value.{Value}
-use Rattle.star_store.specs.declared.values.Cell.TheVariants as cell
 use Rattle.star_store.specs.declared.names.Method.{Method}
 use Rattle.star_store.specs.declared.names.Method.TheVariants as method
 use Rattle.star_meaning.specs.declared.fault.FaultCode.TheVariants as code
 use Rattle.star_meaning.specs.declared.given.Arguments.{Arguments}
 use Rattle.star_meaning.specs.Program.{Setting}
-use Rattle.star_meaning.specs.Values.{type_name}
 use Rattle.star_meaning.specs.Texts.{lower, upper}
-use Rattle.star_meaning.specs.Methods.{method_of, attribute, on_text, call_method}
+use Rattle.star_meaning.specs.Methods.{on_text, call_method}
 use Rattle.star_unseen.specs.Veil.{IsVisible}
 use Rattle.star_unseen.specs.Shelves.{Veil, with_other}
 use Rattle.star_unseen.proofs.Visible.{ArgumentsAreVisible}
-use Rattle.star_unseen.proofs.Alike.{Alike, Any, alike_build, alike_content, alike_fail, alike_found, alike_then}
-use Rattle.star_unseen.proofs.Values.{any_found, alike-want_text}
+use Rattle.star_unseen.proofs.Alike.{Alike, alike_fail, alike_then}
+use Rattle.star_unseen.proofs.Values.{alike-want_text}
 use Rattle.star_unseen.proofs.ListMethods.{alike-call_append, alike-call_clear, alike-call_extend, alike-call_index, alike-call_insert, alike-call_pop, alike-call_remove}
 use Rattle.star_unseen.proofs.DictMethods.{alike-call_get, alike-call_items, alike-call_keys, alike-call_values, alike-call_dict_pop, alike-call_popitem, alike-call_setdefault, alike-call_update}
 use Rattle.star_unseen.proofs.TableMethods.{alike-call_in_table, alike-call_wider}
 use Rattle.star_unseen.proofs.TextMethods.{alike-call_edge, alike-call_find, alike-call_join, alike-call_split, alike-call_strip, alike-call_case, alike-call_replace, alike-call_format}
-
-pub alike-attribute : {w : Setting} (k : Veil w) (line : ℕ) (x : Value) (name : List ℕ) → IsVisible k.hides x → Alike k (IsVisible k.hides) (attribute w line x name) (attribute (with_other k.other w) line x name)
-unfolding attribute
-alike-attribute {w = w} k line x name h =
-    alike_then (alike_content {A = Method} Any x _ _ h (λ c _. alike_found Any code.BadType line (method_of w.dialect (type_name c) name) (any_found _))) (λ m _. alike_build line 1 (cell.Bound m x) h)
 
 pub alike-on_text : {w : Setting} (k : Veil w) (levels line : ℕ) (m : Method) (t : List ℕ) (g : Arguments) → ArgumentsAreVisible k.hides g → Alike k (IsVisible k.hides) (on_text w levels line m t g) (on_text (with_other k.other w) levels line m t g)
 alike-on_text k levels line method.StringEndswith t g h = alike-call_wider k line (codes "endswith") t g _ _ h (alike-call_edge k line (ends_with nat_eq) t g h)

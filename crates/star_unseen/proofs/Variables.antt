@@ -9,6 +9,7 @@ use Rattle.star_store.specs.declared.values.Cell.TheVariants as cell
 use Rattle.star_store.specs.declared.values.Frame.{Frame}
 use Rattle.star_store.specs.declared.values.Value.{Value}
 use Rattle.star_store.specs.declared.values.Value.TheVariants as value
+use Rattle.star_dialect.specs.declared.Dialect.{Dialect}
 use Rattle.star_store.specs.Names.{built_in_name}
 use Rattle.star_store.specs.Store.{global_of}
 use Rattle.star_tree.specs.declared.tree.Name.{Name}
@@ -47,6 +48,7 @@ frame_visible hides (Some (cell.List xs)) h = tt
 frame_visible hides (Some (cell.Dict es)) h = tt
 frame_visible hides (Some (cell.Func f)) h = tt
 frame_visible hides (Some (cell.Bound m v)) h = tt
+frame_visible hides (Some (cell.Struct fs)) h = tt
 
 pub visible-frame_of : {w : Setting} (k : Veil w) (s : State) (v : Value) → StateIsVisible k.hides w.home s → IsVisible k.hides v → Maybe (FrameIsVisible k.hides) (frame_of (seen w s v))
 visible-frame_of {w = w} k s v c h = frame_visible k.hides (seen w s v) (visible_seen k s v c h)
@@ -128,23 +130,23 @@ every_built_in : {w : Setting} (k : Veil w) (bs : List BuiltIn) → GlobalsAreVi
 every_built_in k [] = tt
 every_built_in k (b ∷ bs) = (tt, every_built_in k bs)
 
-pub visible-outermost : {w : Setting} (k : Veil w) → GlobalsAreVisible k.hides outermost
-visible-outermost k = (tt, (tt, (tt, every_built_in k built_ins)))
+pub visible-outermost : {w : Setting} (k : Veil w) (d : Dialect) → GlobalsAreVisible k.hides (outermost d)
+visible-outermost k d = (tt, (tt, (tt, every_built_in k (built_ins d))))
 
-pub alike-outside_prelude : {w : Setting} (k : Veil w) (line : ℕ) (name : List ℕ) → Alike k (IsVisible k.hides) (outside_prelude line name) (outside_prelude line name)
-alike-outside_prelude k line name = alike_found (IsVisible k.hides) code.Unbound line (global_of name outermost) (visible-global_of k.hides name outermost (visible-outermost k))
+pub alike-outside_prelude : {w : Setting} (k : Veil w) (d : Dialect) (line : ℕ) (name : List ℕ) → Alike k (IsVisible k.hides) (outside_prelude d line name) (outside_prelude d line name)
+alike-outside_prelude k d line name = alike_found (IsVisible k.hides) code.Unbound line (global_of name (outermost d)) (visible-global_of k.hides name (outermost d) (visible-outermost k d))
 
 same_prelude : {w : Setting} (k : Veil w) (name : List ℕ) (file : ℕ) → FileIsVisible k.hides file → prelude_has w name file ≡ prelude_has (with_other k.other w) name file
 same_prelude k name file h = ap (λ names. not (is_private name) && list_any (same_name name) names) (same-names_of k file 0 h)
 
 pub alike-outside : {w : Setting} (k : Veil w) (prelude : Option ℕ) (file line : ℕ) (name : List ℕ) → Maybe (FileIsVisible k.hides) prelude → IsShared k prelude name → Alike k (IsVisible k.hides) (outside w prelude file line name) (outside (with_other k.other w) prelude file line name)
-alike-outside k None file line name c h = alike-outside_prelude k line name
+alike-outside {w = w} k None file line name c h = alike-outside_prelude k w.dialect line name
 alike-outside {w = w} k (Some prelude) file line name c h =
     subst (λ b. Alike k (IsVisible k.hides) (outside w (Some prelude) file line name)
-    (if not (nat_eq prelude file) && b then found code.Unbound line (option_and_then (λ p. global_of name p.globals) (published_of (with_other k.other w) prelude)) else outside_prelude line name)) (same_prelude k name prelude c)
+    (if not (nat_eq prelude file) && b then found code.Unbound line (option_and_then (λ p. global_of name p.globals) (published_of (with_other k.other w) prelude)) else outside_prelude w.dialect line name)) (same_prelude k name prelude c)
     (alike_if (IsVisible k.hides) (not (nat_eq prelude file) && prelude_has w name prelude) _ _ _ _
     (alike_finds (IsVisible k.hides) code.Unbound line _ _ h.0 h.1)
-    (alike-outside_prelude k line name))
+    (alike-outside_prelude k w.dialect line name))
 
 -- ---- reading and binding
 

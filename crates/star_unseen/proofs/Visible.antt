@@ -32,6 +32,10 @@ ArgumentIsVisible hides (StarStar v) = IsVisible hides v
 abbrev pub WithMaybe : Hides → Value × Option Value → Type 0
 WithMaybe hides p = IsVisible hides p.0 × VisibleIfThere hides p.1
 
+-- two values with one that may be there
+abbrev pub TwoWithMaybe : Hides → Value × Value × Option Value → Type 0
+TwoWithMaybe hides p = IsVisible hides p.0 × IsVisible hides p.1 × VisibleIfThere hides p.2
+
 abbrev pub BoundIsVisible : Hides → BoundArgument → Type 0
 BoundIsVisible hides (One v) = IsVisible hides v
 BoundIsVisible hides (Rest xs) = AreVisible hides xs

@@ -11,10 +11,11 @@ use Rattle.star_store.specs.declared.values.Cell.TheVariants as cell
 use Rattle.star_store.specs.Spend.{Spend, all_places, answer, spend_then, visited}
 use Rattle.star_store.specs.Equal.{same, same_cells, same_entries, same_entry, same_found, same_items, same_pair, same_pairs, same_place, same_values}
 use Rattle.star_store.specs.Order.{order, order_cells, order_items, order_pair, order_place, order_places, order_values}
+use Rattle.star_store.specs.Fields.{names_of, same_names, values_of}
 use Rattle.star_store.specs.Key.{all_pass, check, check_cell, check_each, check_value, is_key, key_cell, key_levels, key_value, place_of, same_key, same_key_cell, same_key_items, same_key_pair, same_key_place, same_key_value, value_of}
-use Rattle.star_store.specs.Text.{Say, all_said, on_path, say, separator, tuple_end, say_cell, say_entries, say_entry, say_item, say_items, say_pair, say_place, say_value, text, then_say}
+use Rattle.star_store.specs.Text.{Say, all_said, on_path, say, separator, tuple_end, say_cell, say_entries, say_entry, say_field, say_fields, say_item, say_named, say_items, say_pair, say_place, say_value, text, then_say}
 use Rattle.star_store.specs.Truth.{true_cell, truth}
-use Rattle.star_unseen.specs.Veil.{AreVisible, CellIsVisible, Every, Hides, IsVisible, Maybe, VisibleIfThere, PairIsVisible, PairsAreVisible}
+use Rattle.star_unseen.specs.Veil.{AreVisible, CellIsVisible, Every, FieldsAreVisible, Hides, IsVisible, Maybe, VisibleIfThere, PairIsVisible, PairsAreVisible}
 use Rattle.star_unseen.proofs.Rows.{every_get, maybe_map}
 
 pub ext : {A B : Type 0} (f g : A → B) → ((x : A) → f x ≡ g x) → f ≡ g
@@ -31,12 +32,18 @@ SameOnVisible hides f g = (x y : Value) → IsVisible hides x → IsVisible hide
 
 -- ---- keys
 
+-- the values of visible fields are visible
+fields_values : (hides : Hides) (fs : List (List ℕ × Value)) → FieldsAreVisible hides fs → AreVisible hides (values_of fs)
+fields_values hides [] c = tt
+fields_values hides (f ∷ fs) c = (c.0, fields_values hides fs c.1)
+
 key_items : (hides : Hides) (f g : Value → Bool) → ((x : Value) → IsVisible hides x → f x ≡ g x) → (xs : List Value) → AreVisible hides xs → list_all f xs ≡ list_all g xs
 key_items hides f g h [] c = refl
 key_items hides f g h (x ∷ xs) c = ap (λ b. b && list_all f xs) (h x c.0) ∙ ap (λ b. g x && b) (key_items hides f g h xs c.1)
 
 key_cells : (hides : Hides) (f g : Value → Bool) → ((x : Value) → IsVisible hides x → f x ≡ g x) → (o : Option Cell) → Maybe (CellIsVisible hides) o → key_cell f o ≡ key_cell g o
 key_cells hides f g h (Some (cell.Tuple xs)) c = key_items hides f g h xs c
+key_cells hides f g h (Some (cell.Struct fs)) c = key_items hides f g h (values_of fs) (fields_values hides fs c)
 key_cells hides f g h _ c = refl
 
 key_values : (hides : Hides) (look other : Value → Option Cell) → Looks hides look other → (f g : Value → Bool) → ((x : Value) → IsVisible hides x → f x ≡ g x) → (v : Value) → IsVisible hides v → key_value look f v ≡ key_value other g v
@@ -61,6 +68,7 @@ key_rows hides f g h xs ys c d = ap (λ b. if nat_eq (length xs) (length ys) the
 
 same_key_cells : (hides : Hides) (f g : Value → Value → Bool) → SameOnVisible hides f g → (o p : Option Cell) → Maybe (CellIsVisible hides) o → Maybe (CellIsVisible hides) p → same_key_cell f o p ≡ same_key_cell g o p
 same_key_cells hides f g h (Some (cell.Tuple xs)) (Some (cell.Tuple ys)) c d = key_rows hides f g h xs ys c d
+same_key_cells hides f g h (Some (cell.Struct xs)) (Some (cell.Struct ys)) c d = ap (λ (b : Bool). same_names (names_of xs) (names_of ys) && b) (key_rows hides f g h (values_of xs) (values_of ys) (fields_values hides xs c) (fields_values hides ys d))
 same_key_cells hides f g h _ _ c d = refl
 
 same_key_values : (hides : Hides) (look other : Value → Option Cell) → Looks hides look other → (f g : Value → Value → Bool) → SameOnVisible hides f g → (x y : Value) → IsVisible hides x → IsVisible hides y → same_key_value look f x y ≡ same_key_value other g x y
@@ -101,6 +109,7 @@ check_items hides f g h (x ∷ xs) c = ap {B = Spend (Unit {0})} (λ (m : Spend 
 
 check_cells : (hides : Hides) (f g : Value → Spend (Unit {0})) → ((x : Value) → IsVisible hides x → f x ≡ g x) → (o : Option Cell) → Maybe (CellIsVisible hides) o → check_cell f o ≡ check_cell g o
 check_cells hides f g h (Some (cell.Tuple xs)) c = check_items hides f g h xs c
+check_cells hides f g h (Some (cell.Struct fs)) c = check_items hides f g h (values_of fs) (fields_values hides fs c)
 check_cells hides f g h _ c = refl
 
 check_values : (hides : Hides) (look other : Value → Option Cell) → Looks hides look other → (f g : Value → Spend (Unit {0})) → ((x : Value) → IsVisible hides x → f x ≡ g x) → (v : Value) → IsVisible hides v → check_value look f v ≡ check_value other g v
@@ -144,6 +153,8 @@ cells_same : (hides : Hides) (look other : Value → Option Cell) → Looks hide
 cells_same hides look other l f g h one (Some (cell.Tuple xs)) (Some (cell.Tuple ys)) c d = items_same hides f g h xs ys c d
 cells_same hides look other l f g h one (Some (cell.List xs)) (Some (cell.List ys)) c d = items_same hides f g h xs ys c d
 cells_same hides look other l f g h one (Some (cell.Dict xs)) (Some (cell.Dict ys)) c d = entries_same hides look other l f g h xs ys c d
+cells_same hides look other l f g h one (Some (cell.Struct xs)) (Some (cell.Struct ys)) c d =
+    ap (λ (m : Spend Bool). if same_names (names_of xs) (names_of ys) then m else answer false) (items_same hides f g h (values_of xs) (values_of ys) (fields_values hides xs c) (fields_values hides ys d))
 cells_same hides look other l f g h one _ _ c d = refl
 
 values_same : (hides : Hides) (look other : Value → Option Cell) → Looks hides look other → (f g : Value → Value → Spend Bool) → SameOnVisible hides f g → (x y : Value) → IsVisible hides x → IsVisible hides y → same_values look f x y ≡ same_values other g x y
@@ -214,6 +225,13 @@ pair_said hides f g h (Some e) c = ap (λ (m : Say). then_say m (then_say (say (
 entries_said : (hides : Hides) (f g : Value → Say) → ((x : Value) → IsVisible hides x → f x ≡ g x) → (es : List (Value × Value)) → PairsAreVisible hides es → say_entries f es ≡ say_entries g es
 entries_said hides f g h es c = said_same (say_entry f es) (say_entry g es) (λ i. ap (then_say (say (separator i))) (pair_said hides f g h (slice_get es i) (every_get _ es i c))) (length es) 0
 
+named_said : (hides : Hides) (f g : Value → Say) → ((x : Value) → IsVisible hides x → f x ≡ g x) → (o : Option (List ℕ × Value)) → Maybe (λ e. IsVisible hides e.1) o → say_named f o ≡ say_named g o
+named_said hides f g h None c = refl
+named_said hides f g h (Some e) c = ap (λ (m : Say). then_say (say e.0) (then_say (say (codes " = ")) m)) (h e.1 c)
+
+fields_said : (hides : Hides) (f g : Value → Say) → ((x : Value) → IsVisible hides x → f x ≡ g x) → (fs : List (List ℕ × Value)) → FieldsAreVisible hides fs → say_fields f fs ≡ say_fields g fs
+fields_said hides f g h fs c = said_same (say_field f fs) (say_field g fs) (λ i. ap (then_say (say (separator i))) (named_said hides f g h (slice_get fs i) (every_get _ fs i c))) (length fs) 0
+
 -- the texts of values below any path
 abbrev SaysSame : Hides → (List Value → Value → Say) → (List Value → Value → Say) → Type 0
 SaysSame hides f g = (path : List Value) (x : Value) → IsVisible hides x → f path x ≡ g path x
@@ -222,6 +240,7 @@ cell_said : (hides : Hides) (f g : List Value → Value → Say) → SaysSame hi
 cell_said hides f g h path v (Some (cell.Tuple xs)) c = ap (λ (m : Say). then_say (say (codes "(")) (then_say m (say (tuple_end xs)))) (items_said hides (f path) (g path) (h path) xs c)
 cell_said hides f g h path v (Some (cell.List xs)) c = ap {B = Say} (λ (m : Say) out left. if on_path v path then say (codes "[...]") out left else then_say (say (codes "[")) (then_say m (say (codes "]"))) out left) (items_said hides (f (path ++ v ∷ [])) (g (path ++ v ∷ [])) (h (path ++ v ∷ [])) xs c)
 cell_said hides f g h path v (Some (cell.Dict es)) c = ap {B = Say} (λ (m : Say) out left. if on_path v path then say (codes "{...}") out left else then_say (say (codes "{")) (then_say m (say (codes "}"))) out left) (entries_said hides (f (path ++ v ∷ [])) (g (path ++ v ∷ [])) (h (path ++ v ∷ [])) es c)
+cell_said hides f g h path v (Some (cell.Struct fs)) c = ap (λ (m : Say). then_say (say (codes "struct(")) (then_say m (say (codes ")")))) (fields_said hides (f path) (g path) (h path) fs c)
 cell_said hides f g h path v _ c = refl
 
 value_said : (hides : Hides) (look other : Value → Option Cell) → Looks hides look other → (f g : List Value → Value → Say) → SaysSame hides f g → (path : List Value) (v : Value) → IsVisible hides v → say_value look f path v ≡ say_value other g path v

@@ -59,6 +59,7 @@ place_same hides look other l (Some k) (Some (cell.List xs)) h d = refl
 place_same hides look other l (Some k) (Some (cell.Func f)) h d = refl
 place_same hides look other l (Some k) (Some (cell.Frame f)) h d = refl
 place_same hides look other l (Some k) (Some (cell.Bound m x)) h d = refl
+place_same hides look other l (Some k) (Some (cell.Struct fs)) h d = refl
 
 -- ---- what a change leaves is visible
 
@@ -119,6 +120,7 @@ cell_changed hides c place (Some (cell.Tuple xs)) h d = tt
 cell_changed hides c place (Some (cell.Func f)) h d = tt
 cell_changed hides c place (Some (cell.Frame f)) h d = tt
 cell_changed hides c place (Some (cell.Bound m x)) h d = tt
+cell_changed hides c place (Some (cell.Struct fs)) h d = tt
 
 -- ---- the write of a run
 

@@ -41,6 +41,9 @@ PairIsVisible hides e = IsVisible hides e.0 × IsVisible hides e.1
 abbrev pub PairsAreVisible : Hides → List (Value × Value) → Type 0
 PairsAreVisible hides = Every (PairIsVisible hides)
 
+abbrev pub FieldsAreVisible : Hides → List (List ℕ × Value) → Type 0
+FieldsAreVisible hides = Every (λ e. IsVisible hides e.1)
+
 -- no value in a cell leads to a hidden one, and a function or a frame is of a file that is not hidden
 abbrev pub CellIsVisible : Hides → Cell → Type 0
 CellIsVisible hides (cell.Text t) = Unit {0}
@@ -52,6 +55,7 @@ CellIsVisible hides (cell.Func f) = AreVisible hides f.defaults × IsVisible hid
 CellIsVisible hides (cell.Frame f) = VisibleIfThere hides f.parent × Every (VisibleIfThere hides) f.slots
     × FileIsVisible hides f.file
 CellIsVisible hides (cell.Bound m v) = IsVisible hides v
+CellIsVisible hides (cell.Struct fs) = FieldsAreVisible hides fs
 
 -- so it is with each of these cells
 abbrev pub CellsAreVisible : Hides → List HeapCell → Type 0

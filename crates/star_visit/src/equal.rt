@@ -5,17 +5,18 @@
 ghost use Rattle.std.specs.Prelude.{◌≡◌, List, ◌≤◌, ◌&&◌, ◌-◌};
 ghost use Rattle.star_store.specs.Store.{look};
 ghost use Rattle.star_store.specs.Spend.{Spends};
-ghost use Rattle.star_store.specs.Equal.{same, same_dict_entry, same_dicts, same_items, same_place, same_read, same_values};
+ghost use Rattle.star_store.specs.Equal.{same, same_dict_entry, same_dicts, same_fields, same_items, same_place, same_read, same_values};
 ghost use Rattle.star_store.specs.Range.{same_range};
 
 use star_store::arena::{Arena, Homes};
 use star_store::budget::Budget;
 use star_store::fault::StoreFault;
+use star_store::fields::Fields;
 use star_store::range::Range;
 use star_store::values::{Cell, Value, Values};
 
-/// Whether two values are equal. It visits the pair, and in lists, tuples and dictionaries the pairs that they hold, up
-/// to the first difference: a visit opens a level (else `Deep`) and then pays a step (else `Steps`).
+/// Whether two values are equal. It visits the pair, and in lists, tuples, dictionaries and structs the pairs that they
+/// hold, up to the first difference: a visit opens a level (else `Deep`) and then pays a step (else `Steps`).
 pub fn equal(
     arena: &Arena,
     homes: &Homes,
@@ -108,8 +109,30 @@ fn same_cells<'a>(
         }
         (Some(Cell::Func(_)), Some(Cell::Func(_))) => Ok(one),
         (Some(Cell::Bound(_, _)), Some(Cell::Bound(_, _))) => Ok(one),
+        (Some(Cell::Struct(s)), Some(Cell::Struct(t))) => {
+            same_fields(arena, homes, levels, steps, s.get(), t.get())
+        }
         _ => Ok(false),
     }
+}
+
+#[cycle(same)]
+fn same_fields<'a>(
+    arena: &'a Arena,
+    homes: &'a Homes<'a>,
+    levels: u32,
+    steps: &mut u64,
+    s: &'a Fields,
+    t: &'a Fields,
+) -> Result<bool, StoreFault>
+    ensures answer { Spends (same_fields (same (look arena.now homes.now) levels) s.now t.now steps.old)
+        result steps.new }
+    ensures less { steps.new ≤ steps.old }
+{
+    if !s.has_names_of(t) {
+        return Ok(false);
+    }
+    same_items(arena, homes, levels, steps, s.values(), t.values())
 }
 
 /// Whether two ranges have the same ints.

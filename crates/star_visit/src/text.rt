@@ -5,13 +5,15 @@
 ghost use Rattle.std.specs.Prelude.{◌≡◌, ◌≤◌, ◌++◌, ◌∷◌, ◌-◌, [], OnOk, codes, take, vec_len};
 ghost use Rattle.std.specs.Fmt.{signed_decimal};
 ghost use Rattle.star_store.specs.Store.{look};
-ghost use Rattle.star_store.specs.Text.{Tells, after, all_bounds, bool_text, bounds_parts, built_in_parts, function_parts, method_parts, on_path, quoted, range_after, same_address, say_dict, say_entries, say_entry, say_inside, say_items, say_list, say_new_dict, say_new_list, say_place, say_read, say_tuple, say_within, separator, text, tuple_end};
+ghost use Rattle.star_store.specs.Text.{Tells, after, all_bounds, bool_text, bounds_parts, built_in_parts, function_parts, method_parts, on_path, quoted, range_after, same_address, say_dict, say_entries, say_entry, say_field, say_fields, say_inside, say_items, say_list, say_new_dict, say_new_list, say_place, say_read, say_struct, say_tuple, say_within, separator, text, tuple_end};
 ghost use Rattle.star_visit.specs.Pages.{Puts};
 
 use crate::draft::Draft;
+use sqlite_items::Boxed;
 use star_store::arena::{Arena, Homes};
 use star_store::budget::Budget;
 use star_store::fault::StoreFault;
+use star_store::fields::Fields;
 use star_store::names::Method;
 use star_store::range::Range;
 use star_store::values::{Cell, Entries, Value, Values};
@@ -125,6 +127,7 @@ fn put_cell<'a>(
         Some(Cell::Dict(entries)) => put_dict(arena, homes, levels, page, value, entries)?,
         Some(Cell::Func(function)) => page.say_function(&function.get().name)?,
         Some(Cell::Bound(method, _)) => page.say_method(*method)?,
+        Some(Cell::Struct(fields)) => put_struct(arena, homes, levels, page, fields)?,
         Some(Cell::Frame(_)) | None => page.say("")?,
     }
     Ok(())
@@ -146,6 +149,71 @@ fn put_tuple<'a>(
     page.say("(")?;
     put_items(arena, homes, levels, page, items)?;
     page.say_tuple_end(items)?;
+    Ok(())
+}
+
+#[cycle(text)]
+fn put_struct<'a>(
+    arena: &'a Arena,
+    homes: &'a Homes<'a>,
+    levels: u32,
+    page: &mut Page,
+    fields: &'a Boxed<Fields>,
+) -> Result<(), StoreFault>
+    ensures answer { Puts (say_struct (text (look arena.now homes.now) levels page.old.path.items) fields.now) page.old
+        result page.new }
+    ensures less { page.new.steps ≤ page.old.steps }
+    ensures path { OnOk result (page.new.path.items ≡ page.old.path.items) }
+{
+    page.say("struct(")?;
+    put_fields(arena, homes, levels, page, fields.get())?;
+    page.say(")")?;
+    Ok(())
+}
+
+#[cycle(text)]
+#[tactic(auto, using(crate::proofs::Texts::all_said_next))]
+fn put_fields<'a>(
+    arena: &'a Arena,
+    homes: &'a Homes<'a>,
+    levels: u32,
+    page: &mut Page,
+    fields: &'a Fields,
+) -> Result<(), StoreFault>
+    ensures answer { Puts (say_fields (text (look arena.now homes.now) levels page.old.path.items) fields.now) page.old
+        result page.new }
+    ensures less { page.new.steps ≤ page.old.steps }
+    ensures path { OnOk result (page.new.path.items ≡ page.old.path.items) }
+{
+    let count = fields.len();
+    for i in 0..count {
+        put_field(arena, homes, levels, page, fields, i)?;
+    }
+    Ok(())
+}
+
+#[cycle(text)]
+fn put_field<'a>(
+    arena: &'a Arena,
+    homes: &'a Homes<'a>,
+    levels: u32,
+    page: &mut Page,
+    fields: &'a Fields,
+    i: usize,
+) -> Result<(), StoreFault>
+    ensures answer { Puts (say_field (text (look arena.now homes.now) levels page.old.path.items) fields.now i) page.old
+        result page.new }
+    ensures less { page.new.steps ≤ page.old.steps }
+    ensures path { OnOk result (page.new.path.items ≡ page.old.path.items) }
+{
+    page.say_separator(i)?;
+    match fields.at(i) {
+        Some((name, value)) => {
+            page.say_name(name)?;
+            put_text(arena, homes, levels, page, value)?;
+        }
+        None => page.say("")?,
+    }
     Ok(())
 }
 
@@ -422,6 +490,16 @@ impl Page {
         self.say("<function ")?;
         self.out.put(name)?;
         self.say(">")
+    }
+
+    /// Puts the name of a field and a sign after the text.
+    fn say_name(&mut self, name: &Text) -> Result<(), AllocError>
+        ensures said { OnOk result (self.new.out ≡ self.old.out ++ name.now ++ codes " = ") }
+        ensures path { self.new.path.items ≡ self.old.path.items }
+        ensures steps { self.new.steps ≡ self.old.steps }
+    {
+        self.out.put(name)?;
+        self.say(" = ")
     }
 
     fn say_method(&mut self, method: Method) -> Result<(), AllocError>

@@ -3,3 +3,4 @@ pub mod Paths
 pub mod Labels
 pub mod Globs
 pub mod Inside
+pub mod Patterns

@@ -1,5 +1,5 @@
 -- Where the parts of a path lead.
-use Rattle.std.proofs.Common.{◌≡◌, ◌-◌, ◌+◌, ℕ, List, [], ◌∷◌, ◌++◌, length, length-append, map, take, Bool, ◌&&◌, true, false, Option, Some, None, refl, ap, subst, sym, ◌∙◌, arith, Bor}
+use Rattle.std.proofs.Common.{◌≡◌, ◌-◌, ℕ, List, [], ◌∷◌, ◌++◌, length, length-append, take, Bool, ◌&&◌, true, Option, Some, None, refl, ap, subst, ◌∙◌, arith, Bor}
 use Rattle.std.proofs.Math.Seq.{get_or-append_seam, take-append_seam}
 use Rattle.std.specs.Prelude.{if◌then◌else◌, slice_index_or}
 use Rattle.std.specs.List.{list_all}

@@ -11,3 +11,7 @@ MatchesFrom first more name =
 unfoldable pub Matches : List ℕ → List ℕ → Type 0
 Matches [] name = name ≡ []
 Matches (first ∷ more) name = MatchesFrom first (Matches more) name
+
+-- the pattern matches neither the name nor any end of it
+abbrev pub MatchesNoEnd : List ℕ → List ℕ → Type 0
+MatchesNoEnd pattern name = (front rest : List ℕ) → name ≡ front ++ rest → Matches pattern rest → ⊥

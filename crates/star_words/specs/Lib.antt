@@ -3,4 +3,5 @@ pub mod Rows
 pub mod Words
 pub mod Named
 pub mod Glob
+pub mod Excluded
 pub mod Below

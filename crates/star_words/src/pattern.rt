@@ -1,11 +1,14 @@
 //! Words such as `//app/...`: the labels of all files below a folder.
 
-ghost use Rattle.std.specs.Prelude.{◌≡◌, ◌+◌, ◌≤◌, ◌∷◌, ◌++◌, [], ℕ, List, IfOk, IfSome, MatchOption, OnOk, length, vec_len};
+ghost use Rattle.std.specs.Prelude.{◌≡◌, ◌+◌, ◌≤◌, ◌∷◌, ◌++◌, [], ℕ, List, IfOk, IfSome, MatchOption, OnOk, length, true, vec_len};
 ghost use Rattle.star_label.specs.Label.{label_text};
 ghost use Rattle.star_label.specs.View.{text_of};
-ghost use Rattle.star_words.specs.Below.{AreBelow, IsInside, IsWalked};
+ghost use Rattle.star_words.specs.Below.{AreBelow, IsThere, IsWalked, left_out, named};
+ghost use Rattle.star_words.specs.Excluded.{IsLeftOut};
+ghost use Rattle.star_words.specs.Glob.{Matches};
 ghost use Rattle.star_words.specs.Named.{labels_of};
 
+use crate::exclude::is_left_out;
 use crate::glob::matches;
 use crate::walk::Walk;
 use crate::words::label_of;
@@ -26,6 +29,15 @@ pub trait Listing {
     /// The entries of the folder at a path, by their names. The path has a slash between two folders. At the top it is
     /// empty.
     fn entries(&mut self, alloc: Global, path: &str) -> Result<BTreeMap<String, Kind>, FolderError>;
+}
+
+/// Which of the files below a folder are asked for.
+#[derive(Clone, Copy, Debug)]
+pub struct Filter<'a> {
+    /// The pattern that their names match.
+    pub named: &'a str,
+    /// The patterns of the files and folders that are left out.
+    pub left_out: &'a [String],
 }
 
 /// The folder of a word that asks for all files below it: the text before `...` in `...`, `a/...`, `//...` or
@@ -72,9 +84,30 @@ fn file_label(alloc: Global, path: &str, name: &str) -> Result<Option<Label>, Al
 /// The folders of other tools that a walk leaves out.
 const LEFT_OUT: [&str; 2] = [".git", "node_modules"];
 
-/// Whether a walk goes into a folder of this name.
-fn is_entered(name: &str) -> bool {
-    is_segment(name) && name != LEFT_OUT[0] && name != LEFT_OUT[1]
+/// Whether a walk goes into the folder of this name in the folder at a path.
+fn is_entered(alloc: Global, path: &str, name: &str, filter: Filter<'_>) -> Result<bool, AllocError>
+    ensures { IfOk result (λ is. is ≡ true → IsLeftOut (left_out filter.entry) Kind.Folder path.now name.now → ⊥) }
+{
+    if !is_segment(name) || name == LEFT_OUT[0] || name == LEFT_OUT[1] {
+        return Ok(false);
+    }
+    Ok(!is_left_out(alloc, filter.left_out, Kind::Folder, path, name)?)
+}
+
+/// Whether the file of this name in the folder at a path is asked for.
+fn is_asked_for(
+    alloc: Global,
+    path: &str,
+    name: &str,
+    filter: Filter<'_>,
+) -> Result<bool, AllocError>
+    ensures named { IfOk result (λ is. is ≡ true → Matches (named filter.entry) name.now) }
+    ensures kept { IfOk result (λ is. is ≡ true → IsLeftOut (left_out filter.entry) Kind.File path.now name.now → ⊥) }
+{
+    if !matches(filter.named.as_bytes(), name.as_bytes()) {
+        return Ok(false);
+    }
+    Ok(!is_left_out(alloc, filter.left_out, Kind::File, path, name)?)
 }
 
 /// Follows an entry of the folder at a path.
@@ -84,23 +117,23 @@ fn enter(
     path: &str,
     name: &str,
     kind: Kind,
-    pattern: &str,
+    filter: Filter<'_>,
 ) -> Result<(), AllocError>
-    ensures walked { OnOk result ((top : List ℕ) → IsInside top path.now → IsWalked top pattern.now walk.old
-        → IsWalked top pattern.now walk.new) }
+    ensures walked { OnOk result ((top : List ℕ) → IsThere (left_out filter.entry) top path.now
+        → IsWalked top filter.entry walk.old → IsWalked top filter.entry walk.new) }
     ensures listed { walk.new.listed ≡ walk.old.listed }
     ensures places { OnOk result (vec_len walk.new.places ≤ vec_len walk.old.places + 1) }
 {
     match kind {
         Kind::File => {
-            if matches(pattern.as_bytes(), name.as_bytes()) {
+            if is_asked_for(alloc, path, name, filter)? {
                 if let Some(label) = file_label(alloc, path, name)? {
                     walk.found.insert(label)?;
                 }
             }
         }
         Kind::Folder => {
-            if is_entered(name) {
+            if is_entered(alloc, path, name, filter)? {
                 walk.places.push(inside(alloc, path, name)?)?;
             }
         }
@@ -115,15 +148,15 @@ fn enter_all(
     walk: &mut Walk,
     path: &str,
     mut entries: BTreeMap<String, Kind>,
-    pattern: &str,
+    filter: Filter<'_>,
 ) -> Result<(), AllocError>
-    ensures walked { OnOk result ((top : List ℕ) → IsInside top path.now → IsWalked top pattern.now walk.old
-        → IsWalked top pattern.now walk.new) }
+    ensures walked { OnOk result ((top : List ℕ) → IsThere (left_out filter.entry) top path.now
+        → IsWalked top filter.entry walk.old → IsWalked top filter.entry walk.new) }
     ensures listed { walk.new.listed ≡ walk.old.listed }
     ensures places { OnOk result (vec_len walk.new.places ≤ vec_len walk.old.places + length entries.entries) }
 {
     while let Some((name, kind)) = entries.pop_first() {
-        enter(alloc, walk, path, name.as_str(), kind, pattern)?;
+        enter(alloc, walk, path, name.as_str(), kind, filter)?;
     }
     Ok(())
 }
@@ -134,10 +167,10 @@ fn listed<F: Listing>(
     folder: &mut F,
     walk: &mut Walk,
     path: &str,
-    pattern: &str,
+    filter: Filter<'_>,
 ) -> Result<(), ServeError>
-    ensures walked { OnOk result ((top : List ℕ) → IsInside top path.now → IsWalked top pattern.now walk.old
-        → IsWalked top pattern.now walk.new) }
+    ensures walked { OnOk result ((top : List ℕ) → IsThere (left_out filter.entry) top path.now
+        → IsWalked top filter.entry walk.old → IsWalked top filter.entry walk.new) }
     ensures left { OnOk result (1000000 + vec_len walk.new.places + walk.old.listed
         ≤ 1000000 + vec_len walk.old.places + walk.new.listed) }
 {
@@ -150,7 +183,7 @@ fn listed<F: Listing>(
         return Err(ServeError::TooMany);
     }
     walk.listed += entries.len();
-    enter_all(alloc, walk, path, entries, pattern)?;
+    enter_all(alloc, walk, path, entries, filter)?;
     Ok(())
 }
 
@@ -165,17 +198,17 @@ fn next_place(walk: &mut Walk) -> Option<String>
     walk.places.pop()
 }
 
-/// The labels of all files below the folder at `top` whose names a pattern matches. Names that are not segments are
-/// left out, a folder with all that it has, and so are entries that are neither a file nor a folder, such as a link, and
-/// folders named `.git` or `node_modules`.
+/// The labels of all files below the folder at `top` that a filter lets through. Names that are not segments are left
+/// out, a folder with all that it has, and so are entries that are neither a file nor a folder, such as a link, and
+/// folders named `.git` or `node_modules`. No pattern leaves out the folder at `top` itself.
 /// `BadDir` if a folder cannot be listed, `TooMany` if more than 1,000,000 entries are listed.
 pub fn files_below<F: Listing>(
     alloc: Global,
     folder: &mut F,
     top: &str,
-    pattern: &str,
+    filter: Filter<'_>,
 ) -> Result<BTreeSet<Label>, ServeError>
-    ensures { IfOk result (λ found. AreBelow top.now pattern.now (labels_of found.keys)) }
+    ensures { IfOk result (λ found. AreBelow top.now filter.entry (labels_of found.keys)) }
 {
     let mut walk = Walk {
         places: vec![in alloc; String::from_str(alloc, top)?]?,
@@ -183,7 +216,7 @@ pub fn files_below<F: Listing>(
         listed: 0,
     };
     while let Some(path) = next_place(&mut walk) {
-        listed(alloc, folder, &mut walk, path.as_str(), pattern)?;
+        listed(alloc, folder, &mut walk, path.as_str(), filter)?;
     }
     let Walk { found, .. } = walk;
     Ok(found)

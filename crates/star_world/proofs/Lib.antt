@@ -1,3 +1,4 @@
+pub mod BuiltIns
 pub mod Frames
 pub mod Near
 pub mod InOrder

@@ -7,12 +7,11 @@ use denote.Ref.{Bor}
 use Rattle.star_label.specs.Files.{File}
 use Rattle.star_tree.specs.declared.tree.Statement.{Statement}
 use Rattle.star_scope.specs.declared.error.ScopeFault.{ScopeFault}
-use Rattle.star_scope.specs.declared.program.Prelude.{Prelude}
 use Rattle.star_scope.specs.declared.program.Program.{Program}
 use Rattle.star_outline.specs.Definitions.{definition_in}
 use Rattle.star_outline.specs.Names.{has_name}
 use Rattle.star_outline.specs.Outlines.{names_in}
-use Rattle.star_scope.specs.Resolve.{Resolves}
+use Rattle.star_scope.specs.Resolve.{Outside, Resolves}
 use Rattle.star_meaning.specs.Module.{loaded_names}
 use Rattle.star_meaning.specs.Program.{Setting, blocks_in, definition_of, names_of, outline_of}
 use Rattle.star_meaning.specs.Programs.{Files, IsOfFile, outline_at, placed_file, tables_of, trees_of}
@@ -40,9 +39,9 @@ trees_pushed xs files x p h k =
     ∙ sym (map-append (option_map (λ f. f.statements)) files (option_map (λ p. placed_file p.now) p ∷ []))
 
 -- a resolved program is of a file
-pub of_file : (labels : List File) (n : ℕ) (prelude : Option Prelude) (ss : List Statement) (o : Result Program ScopeFault) → Resolves labels n prelude ss o → IfOk o (λ p. IsOfFile p)
-of_file labels n prelude ss (Ok p) h = (n, prelude, ss, h.0, h.3)
-of_file labels n prelude ss (Err e) h = tt
+pub of_file : (labels : List File) (n : ℕ) (seen : Outside) (ss : List Statement) (o : Result Program ScopeFault) → Resolves labels n seen ss o → IfOk o (λ p. IsOfFile p)
+of_file labels n seen ss (Ok p) h = (n, seen, ss, h.0, h.3)
+of_file labels n seen ss (Err e) h = tt
 
 outline_in : (w : Setting) (files : Files) (file : ℕ) → AreOutlined w files → option_flatten (slice_get w.outlines file) ≡ outline_at files file
 outline_in w files file h = ap (λ os. option_flatten (slice_get os file)) h ∙ outline_there files file

@@ -3,11 +3,12 @@
 //! Programs and, beside them, their statements are kept, so that a setting can borrow the statements as one row.
 
 ghost use Rattle.std.specs.Prelude.{◌≡◌, ◌<◌, ◌∷◌, ◌++◌, [], ⊤, length, map, IfOk, MatchOption, OnErr, OnOk};
-ghost use Rattle.std.specs.Option.{option_copied, option_map};
-ghost use Rattle.star_scope.specs.Resolve.{Resolves};
+ghost use Rattle.std.specs.Option.{option_map};
+ghost use Rattle.star_scope.specs.Resolve.{Resolves, outside_seen};
 ghost use Rattle.star_meaning.specs.Programs.{IsOfFile, placed_file, trees_of};
 
 use crate::programs::Programs;
+use star_dialect::Dialect;
 use star_label::files::Files as Labels;
 use star_scope::error::ScopeFault;
 use star_scope::program::{Prelude, Program, resolve};
@@ -101,10 +102,11 @@ pub fn program_of<'t>(
     n: usize,
     tree: &'t Tree,
     prelude: Option<&Prelude<'t>>,
+    dialect: Dialect,
 ) -> Result<Program<'t>, ScopeFault>
     requires { n < length labels.now }
-    ensures answer { Resolves labels.now n (option_copied prelude.entry) tree.now.statements result }
+    ensures answer { Resolves labels.now n (outside_seen prelude.entry dialect) tree.now.statements result }
     ensures of_file { IfOk result (λ p. IsOfFile p) }
 {
-    resolve(alloc, labels, n, tree, prelude)
+    resolve(alloc, labels, n, tree, prelude, dialect)
 }

@@ -11,9 +11,10 @@ ghost use Rattle.star_meaning.specs.Program.{published_of, seen};
 ghost use Rattle.star_meaning.specs.Programs.{tables_of};
 ghost use Rattle.star_meaning.specs.Run.{and_then, build, found, pay};
 ghost use Rattle.star_meaning.specs.declared.fault.FaultCode.TheVariants.{Unbound};
-ghost use Rattle.star_meaning.specs.Variables.{built_ins, frame_of, outermost};
+ghost use Rattle.star_meaning.specs.Variables.{built_ins, core_built_ins, frame_of, further_built_ins, outermost};
 
 use crate::world::World;
+use star_dialect::Dialect;
 use star_machine::fault::{EvalError, fault_at};
 use star_machine::machine::Machine;
 use star_machine::setting::Setting;
@@ -123,9 +124,9 @@ fn built_in_among(functions: &[BuiltIn], name: &str) -> Option<Value>
     None
 }
 
-/// The value of a name of a built-in function.
-fn built_in(name: &str) -> Option<Value>
-    ensures { result ≡ global_of name.now (map (λ b. (built_in_name b, Value.Builtin b)) built_ins) }
+/// The value of a name of a built-in function of the core.
+fn core_built_in(name: &str) -> Option<Value>
+    ensures { result ≡ global_of name.now (map (λ b. (built_in_name b, Value.Builtin b)) core_built_ins) }
 {
     let functions = [
         BuiltIn::Abs,
@@ -153,10 +154,39 @@ fn built_in(name: &str) -> Option<Value>
     built_in_among(&functions, name)
 }
 
+/// The value of a name of a further built-in function of the extended language.
+fn further_built_in(name: &str) -> Option<Value>
+    ensures { result ≡ global_of name.now (map (λ b. (built_in_name b, Value.Builtin b)) further_built_ins) }
+{
+    let functions = [
+        BuiltIn::Chr,
+        BuiltIn::Dir,
+        BuiltIn::Getattr,
+        BuiltIn::Hasattr,
+        BuiltIn::Ord,
+        BuiltIn::Struct,
+    ];
+    built_in_among(&functions, name)
+}
+
+/// The value of a name of a built-in function of a dialect.
+#[tactic(auto, using(crate::proofs::BuiltIns::first_of_both))]
+fn built_in(dialect: Dialect, name: &str) -> Option<Value>
+    ensures { result ≡ global_of name.now (map (λ b. (built_in_name b, Value.Builtin b)) (built_ins dialect)) }
+{
+    match core_built_in(name) {
+        Some(value) => Some(value),
+        None => match dialect {
+            Dialect::Core => None,
+            Dialect::Extended => further_built_in(name),
+        },
+    }
+}
+
 /// The value of a name of the outermost block.
 #[inline(never)]
-fn outermost_value(name: &str) -> Option<Value>
-    ensures { result ≡ global_of name.now outermost }
+fn outermost_value(dialect: Dialect, name: &str) -> Option<Value>
+    ensures { result ≡ global_of name.now (outermost dialect) }
 {
     if "None" == name {
         return Some(Value::NoneValue);
@@ -167,7 +197,7 @@ fn outermost_value(name: &str) -> Option<Value>
     if "False" == name {
         return Some(Value::Bool(false));
     }
-    built_in(name)
+    built_in(dialect, name)
 }
 
 /// The value at a spot; `None` if it is unbound.
@@ -186,7 +216,7 @@ fn at_spot(
             return value_in(machine, setting, slot, frame);
         }
         Some(Spot::Prelude) => prelude_value(setting, name),
-        Some(Spot::Outermost) => outermost_value(name),
+        Some(Spot::Outermost) => outermost_value(setting.dialect(), name),
         None => None,
     }
 }

@@ -71,11 +71,21 @@ IsReportOrGlobal matches name output = ⊥
 abbrev pub IsOtherOutput : ArgMatches → Output → Type 0
 IsOtherOutput matches output = IsReportOrGlobal matches (first_value (found_of matches) (codes "get")) output
 
--- this holds unless a message to a person is wanted: by `--explain`, or since standard error is a terminal
-abbrev pub UnlessTold : ArgMatches → Errors → Type 0 → Type 0
-UnlessTold matches errors P =
-    is_named matches (codes "explain") (codes "always") ≡ false
-    → is_named matches (codes "explain") (codes "all") ≡ false → errors.is_terminal ≡ false → P
+-- whether the text on faults is for tools
+abbrev pub is_for_tools : ArgMatches → Bool
+is_for_tools matches =
+    is_named matches (codes "explain") (codes "github") || is_named matches (codes "explain") (codes "sarif")
+
+-- whether all that is at fault is told: where that is asked for, or for tools
+abbrev pub is_whole : ArgMatches → Bool
+is_whole matches = is_named matches (codes "explain") (codes "all") || is_for_tools matches
+
+-- whether a text on faults is wanted: where that is asked for, or by itself on a terminal
+abbrev pub is_told : ArgMatches → Errors → Bool
+is_told matches errors =
+    is_whole matches
+    || (is_named matches (codes "explain") (codes "always")
+    || (errors.is_terminal && is_named matches (codes "explain") (codes "auto")))
 
 -- whether there are colours: where they are asked for, or by themselves on a terminal where the environment has nothing
 -- against it

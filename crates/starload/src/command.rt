@@ -8,11 +8,11 @@ ghost use Rattle.starload.specs.Options as spec;
 use clap::{Arg, ArgAction, ArgMatches, Command, value_parser};
 use star_dialect::{Dialect, Mode};
 use star_mistakes::place::Naming;
-use star_serve::serve::{Form, Options, Output, Wanted};
+use star_serve::serve::{Form, Options, Output, Style, Wanted};
 use std::alloc::{AllocError, Global};
 
 /// The words of `--version` after the program's name: its version, and the kit that proved it.
-const VERSION: &str = "1.7.0 (rattle-kit-13b logic dac8208d650f15bf)";
+const VERSION: &str = "1.8.0 (rattle-kit-13f logic dac8208d650f15bf)";
 
 /// The end of the help, after the options.
 const EXAMPLE: &str =
@@ -103,7 +103,27 @@ fn match_arg<'a>(alloc: Global) -> Result<Arg<'a>, AllocError> {
         .help(
             "Which names //app/... stands for, where * is any text and ? one byte [default: *.star]",
         )
-        .requires_arg("repo")
+        .requires_arg("repo")?
+        .conflicts_with("dir")
+}
+
+fn exclude_arg<'a>(alloc: Global) -> Result<Arg<'a>, AllocError> {
+    valued_arg(alloc, "exclude", "GLOB")
+        .help(
+            "Leaves out of //app/... what has this name, or, where GLOB has a /, this path below DIR; of a folder all of it",
+        )
+        .action(ArgAction::Append)
+        .requires_arg("repo")?
+        .conflicts_with("dir")
+}
+
+fn keep_going_arg<'a>(alloc: Global) -> Result<Arg<'a>, AllocError> {
+    flag_arg(alloc, "keep-going")
+        .help(
+            "Leaves out of //app/..., and tells on standard error, which files are no text, too long or cannot be read; the exit status is 1 then",
+        )
+        .requires_arg("repo")?
+        .conflicts_with("dir")
 }
 
 /// The words that `--links` may have.
@@ -126,11 +146,11 @@ fn code_arg<'a>(alloc: Global) -> Arg<'a> {
 }
 
 /// The words that `--explain` may have.
-const WHEN: &[&str] = &["auto", "always", "never", "all"];
+const WHEN: &[&str] = &["auto", "always", "never", "all", "github", "sarif"];
 
 fn explain_arg<'a>(alloc: Global) -> Arg<'a> {
     when_arg(alloc, "explain", WHEN).help(
-        "Says on standard error, after the report, what is at fault and where: auto (where that is a terminal), always, never, or all (however many there are)",
+        "Says on standard error, after the report, what is at fault and where: auto (where that is a terminal), always, never, or all (however many there are); github and sarif write it for tools, on standard output and in place of the report",
     )
 }
 
@@ -198,6 +218,8 @@ fn requests_arg<'a>(alloc: Global) -> Result<Arg<'a>, AllocError> {
         .conflicts_with("ROOT")?
         .conflicts_with("dir")?
         .conflicts_with("match")?
+        .conflicts_with("exclude")?
+        .conflicts_with("keep-going")?
         .conflicts_with("get")?
         .conflicts_with("graph")?
         .conflicts_with("check")?
@@ -234,6 +256,8 @@ fn with_input<'a>(alloc: Global, command: Command<'a>) -> Result<Command<'a>, Al
         .arg(dir_arg(alloc))?
         .arg(repo_arg(alloc)?)?
         .arg(match_arg(alloc)?)?
+        .arg(exclude_arg(alloc)?)?
+        .arg(keep_going_arg(alloc)?)?
         .arg(links_arg(alloc)?)
 }
 
@@ -284,7 +308,11 @@ fn texts(alloc: Global, words: &[&str]) -> Result<Vec<String>, AllocError>
 }
 
 /// The values of an argument, in their order.
-fn values_of(alloc: Global, matches: &ArgMatches<'_>, id: &str) -> Result<Vec<String>, AllocError>
+pub(crate) fn values_of(
+    alloc: Global,
+    matches: &ArgMatches<'_>,
+    id: &str,
+) -> Result<Vec<String>, AllocError>
     ensures { IfOk result (λ v. map string_bytes v.items ≡ spec.values_of matches.now id.now) }
 {
     match matches.get_strs(id) {
@@ -391,27 +419,63 @@ pub fn is_shown(matches: &ArgMatches<'_>, errors: Errors) -> bool
         || (is_named(matches, "progress", "auto") && errors.is_terminal && !errors.is_dumb)
 }
 
-/// The form of the message that tells a person what is at fault, by `--explain` and by whether standard error is a
-/// terminal. Files are named by their paths in the folder that has them.
-fn form_of(matches: &ArgMatches<'_>, errors: Errors) -> Option<Form>
-    ensures colored { IfSome result (λ f. f.is_colored ≡ spec.is_colored matches.now errors) }
-    ensures none { spec.UnlessTold matches.now errors (result ≡ None) }
-{
-    let is_whole = is_named(matches, "explain", "all");
-    let is_asked = is_whole || is_named(matches, "explain", "always");
-    let is_meant = errors.is_terminal && is_named(matches, "explain", "auto");
-    if !is_asked && !is_meant {
-        return None;
+/// For whom the text on faults is, by `--explain`.
+fn style_of(matches: &ArgMatches<'_>) -> Style {
+    if is_named(matches, "explain", "github") {
+        Style::Github
+    } else if is_named(matches, "explain", "sarif") {
+        Style::Sarif
+    } else {
+        Style::Text
     }
+}
+
+/// How files are named: by their paths for tools, and if a folder has them.
+fn naming_of(matches: &ArgMatches<'_>, style: Style) -> Naming {
     let has_folder = matches.get_str("dir").is_some() || matches.get_str("repo").is_some();
-    let naming = if has_folder {
+    if has_folder || style != Style::Text {
         Naming::Paths
     } else {
         Naming::Labels
-    };
+    }
+}
+
+/// Whether the text on faults is for tools, by `--explain`.
+fn is_for_tools(matches: &ArgMatches<'_>) -> bool
+    ensures { result ≡ spec.is_for_tools matches.now }
+{
+    is_named(matches, "explain", "github") || is_named(matches, "explain", "sarif")
+}
+
+/// Whether all that is at fault is told, by `--explain`: tools are told all.
+fn is_whole(matches: &ArgMatches<'_>) -> bool
+    ensures { result ≡ spec.is_whole matches.now }
+{
+    is_named(matches, "explain", "all") || is_for_tools(matches)
+}
+
+/// Whether a text on faults is wanted, by `--explain`, and of itself on a terminal.
+fn is_told(matches: &ArgMatches<'_>, errors: Errors) -> bool
+    ensures { result ≡ spec.is_told matches.now errors }
+{
+    is_whole(matches)
+        || is_named(matches, "explain", "always")
+        || (errors.is_terminal && is_named(matches, "explain", "auto"))
+}
+
+/// The form of the text on faults, by `--explain` and by whether standard error is a terminal.
+fn form_of(matches: &ArgMatches<'_>, errors: Errors) -> Option<Form>
+    ensures colored { IfSome result (λ f. f.is_colored ≡ spec.is_colored matches.now errors) }
+    ensures none { spec.is_told matches.now errors ≡ false → result ≡ None }
+{
+    if !is_told(matches, errors) {
+        return None;
+    }
+    let style = style_of(matches);
     Some(Form {
-        naming,
-        is_whole,
+        style,
+        naming: naming_of(matches, style),
+        is_whole: is_whole(matches),
         is_colored: is_colored(matches, errors),
     })
 }
@@ -452,7 +516,7 @@ pub fn options(
         → spec.LacksFlag matches.now (codes "check") → spec.IsOtherOutput matches.now o.output) }
     ensures trace { IfOk result (λ o. spec.HasFlag matches.now (codes "trace") → (o.trace ≡ true)) }
     ensures no_trace { IfOk result (λ o. spec.LacksFlag matches.now (codes "trace") → (o.trace ≡ false)) }
-    ensures unexplained { IfOk result (λ o. spec.UnlessTold matches.now errors (o.explain ≡ None)) }
+    ensures unexplained { IfOk result (λ o. spec.is_told matches.now errors ≡ false → o.explain ≡ None) }
     ensures colored { IfOk result (λ o. IfSome o.explain (λ f. f.is_colored ≡ spec.is_colored matches.now errors)) }
     ensures unshown { IfOk result (λ o. o.progress ≡ None) }
 {

@@ -1,22 +1,24 @@
 //! The program `starload`: it loads the Starlark files of a bundle or of a folder, and writes the report.
 //!
 //! The bundle is read on standard input (`star_serve::serve`), or the files are those of a folder (`serve_dir`), or
-//! those that the roots reach in one (`repo`). The report goes to standard output. After it, standard error tells a
-//! person what is at fault and where, if that is wanted (`docs/EXPLAIN.md`).
+//! those that the roots reach in one (`repo`). The report goes to standard output (`streams`). After it, standard error
+//! tells a person what is at fault and where, if that is wanted (`docs/EXPLAIN.md`).
 //!
 //! `command` has the command line, and `codes` prints the page of a fault's code. Begin at `main`, the last function.
 //! The exit status is the one of `star_bundle::error::status`. An error before the run goes to standard error, and the
-//! exit status is 2. The rules are in `docs/REPORT.md` and `docs/FOLDERS.md`. `command::options` has the contract that
+//! exit status is 2. The rules are in `docs/USING.md`. `command::options` has the contract that
 //! says which options the arguments give.
 #![tactic(auto)]
 
 ghost use Rattle.std.specs.Prelude.{◌≤◌};
 
+mod below;
 mod codes;
 mod command;
 mod progress;
 mod repo;
 mod requests;
+mod streams;
 
 use clap::error::ErrorKind;
 use clap::{ArgMatches, Command};
@@ -30,7 +32,7 @@ use star_folder::folder::Folder;
 use star_hint::bundle::about_bundle;
 use star_hint::folder::about_folder;
 use star_serve::dir::serve_dir;
-use star_serve::ends::{CountedReader, CountedWriter, KeptReader};
+use star_serve::ends::{CountedReader, KeptReader};
 use star_serve::serve::{Options, serve};
 use std::alloc::{AllocError, Global};
 use std::hash::{BuildHasher, RandomState};
@@ -39,6 +41,7 @@ use std::process::ExitCode;
 use std::sync::Wait;
 use std::thread::Threads;
 use std::{env, io};
+use streams::{Streams, is_for_tools};
 
 /// Says why there is no report.
 fn refuse(rt: &HostRuntime, text: &str) -> ExitCode {
@@ -164,9 +167,10 @@ fn report_bundle<H: Threads + Wait + Sync>(
     say_what_is_read(rt);
     let kept = options.explain.map(|_| Vec::new(alloc));
     let mut reader = KeptReader::new(CountedReader::new(rt.stdin()), kept);
-    let mut writer = CountedWriter::new(rt.stdout());
-    let mut said = CountedWriter::new(rt.stderr());
-    let outcome = serve(threads, alloc, &mut reader, &mut writer, &mut said, options);
+    let mut streams = Streams::of(rt, options);
+    let (report, said) = (&mut streams.report, &mut streams.said);
+    let outcome = serve(threads, alloc, &mut reader, report, said, options);
+    let outcome = outcome.and_then(|all_ok| streams.ended(all_ok));
     if let Err(error) = &outcome {
         let about = about_bytes(alloc, reader.kept(), options, *error);
         say_refusal(rt, *error, about);
@@ -199,9 +203,10 @@ fn report_folder<H: Threads + Wait + Sync>(
     requires steps { (1 ≤ options.now.mode.steps) × (options.now.mode.steps ≤ 100000000) }
 {
     let mut folder = DiskFolder::new(rt, dir);
-    let mut writer = CountedWriter::new(rt.stdout());
-    let mut said = CountedWriter::new(rt.stderr());
-    let outcome = serve_dir(threads, alloc, &mut folder, &mut writer, &mut said, options);
+    let mut streams = Streams::of(rt, options);
+    let (report, said) = (&mut streams.report, &mut streams.said);
+    let outcome = serve_dir(threads, alloc, &mut folder, report, said, options);
+    let outcome = outcome.and_then(|all_ok| streams.ended(all_ok));
     if let Err(error) = &outcome {
         say_refusal(rt, *error, about_files(alloc, &mut folder, options));
     }
@@ -219,6 +224,12 @@ fn report<H: Threads + Wait + Sync>(
     requires loaders { (1 ≤ options.loaders) × (options.loaders ≤ 64) }
     requires steps { (1 ≤ options.mode.steps) × (options.mode.steps ≤ 100000000) }
 {
+    if options.trace && is_for_tools(&options) {
+        return refuse(
+            rt,
+            "`--trace` does not go with `--explain=github` and `--explain=sarif`",
+        );
+    }
     match RepoAsked::of(alloc, matches) {
         Ok(None) => {}
         Ok(Some(asked)) => return report_repo(rt, threads, alloc, &asked, options),

@@ -4,6 +4,9 @@
 ghost use Rattle.std.specs.Prelude.{◌≡◌, ◌≤◌, IfOk, IfSome, true};
 ghost use Rattle.star_label.specs.Label.{is_package};
 
+use crate::below::{Below, Roots, left_out, say_left_out};
+use crate::command::values_of;
+use crate::streams::Streams;
 use clap::ArgMatches;
 use star_bundle::error::{ServeError, status};
 use star_hint::missing::{about_file, about_labels};
@@ -12,15 +15,14 @@ use star_label::label::Label;
 use star_repo::disk::{DiskRepo, Links, Top};
 use star_repo::error::RepoError;
 use star_repo::wanting::{LoadAt, wanting};
-use star_serve::ends::CountedWriter;
 use star_serve::repo::serve_repo;
 use star_serve::serve::Options;
 use star_tree::tree::Tree;
 use star_words::named::asked_labels;
-use star_words::pattern::{files_below, front_of, label_below};
+use star_words::pattern::{Filter, front_of};
 use star_words::words::{label_of, label_of_word};
 use std::alloc::{AllocError, AllocFailed, Global};
-use std::collections::BTreeSet;
+use std::collections::BTreeMap;
 use std::mem::ManuallyDrop;
 use std::process::ExitCode;
 use std::sync::Wait;
@@ -28,13 +30,17 @@ use std::thread::Threads;
 use std::{env, fs, io, slice};
 use thiserror::Error;
 
-/// The words of `--repo`, `--match` and `--links`.
+/// The words of `--repo`, `--match`, `--exclude`, `--keep-going` and `--links`.
 #[derive(Debug, Drop)]
 pub(crate) struct RepoAsked {
     /// The folder.
     pub dir: String,
     /// Which names a word that ends in `...` asks for.
     pub pattern: String,
+    /// The patterns of what such a word leaves out.
+    pub left_out: Vec<String>,
+    /// A file that such a word finds is left out if it cannot be one of a run.
+    pub keeps_going: bool,
     /// Which links are followed.
     pub links: Links,
 }
@@ -64,6 +70,8 @@ impl RepoAsked {
         Ok(Some(RepoAsked {
             dir: String::from_str(alloc, dir)?,
             pattern: String::from_str(alloc, pattern)?,
+            left_out: values_of(alloc, matches, "exclude")?,
+            keeps_going: matches.get_flag("keep-going"),
             links: links_of(matches),
         }))
     }
@@ -136,7 +144,7 @@ fn word_in(alloc: Global, place: &Place, word: &str) -> Result<String, LabelErro
 
 /// Why there is no report.
 #[derive(Debug, Drop, Error)]
-enum Refusal {
+pub(crate) enum Refusal {
     /// The reason of the run. If a message to a person is wanted, also the load statement that asks for the file that
     /// the reason names, and lines about that file.
     #[error("{error}")]
@@ -158,13 +166,19 @@ enum Refusal {
     },
 }
 
-impl From<ServeError> for Refusal {
-    fn from(error: ServeError) -> Refusal {
+impl From<RepoError> for Refusal {
+    fn from(error: RepoError) -> Refusal {
         Refusal::Run {
-            error: RepoError::Run { error },
+            error,
             load: None,
             about: None,
         }
+    }
+}
+
+impl From<ServeError> for Refusal {
+    fn from(error: ServeError) -> Refusal {
+        Refusal::from(RepoError::Run { error })
     }
 }
 
@@ -196,32 +210,6 @@ fn here_of(place: &Place) -> Option<&str>
     }
 }
 
-/// The labels of the files below a folder that a word asks for, in their order.
-fn push_below(
-    rt: &HostRuntime,
-    alloc: Global,
-    asked: &RepoAsked,
-    place: &Place,
-    word: &str,
-    front: &str,
-    labels: &mut Vec<String>,
-) -> Result<(), Refusal> {
-    let here = here_of(place).unwrap_or("");
-    let mut found = BTreeSet::new(alloc);
-    if let Some(label) = label_below(alloc, here, front)? {
-        let mut folder = DiskRepo::new(rt, asked.top(place));
-        found = files_below(alloc, &mut folder, label.package(), asked.pattern.as_str())?;
-    }
-    if found.is_empty() {
-        let word = String::from_str(alloc, word)?;
-        return Err(Refusal::Unmatched { word });
-    }
-    for label in found.iter() {
-        labels.push(String::from_str(alloc, label.text())?)?;
-    }
-    Ok(())
-}
-
 /// The label that a word names: an error of this kind where it names none.
 fn label_named(
     alloc: Global,
@@ -242,32 +230,62 @@ fn label_named(
     }
 }
 
-/// The labels of the roots that words name.
-fn roots_named(
+/// The patterns of what words that ask for all files below a folder leave out: none if there is no such word.
+fn left_out_by(
     rt: &HostRuntime,
     alloc: Global,
     asked: &RepoAsked,
     place: &Place,
     words: &[String],
 ) -> Result<Vec<String>, Refusal> {
-    let mut labels = Vec::new(alloc);
     for word in words {
-        let word = word.as_str();
-        match front_of(word) {
-            Some(front) => push_below(rt, alloc, asked, place, word, front, &mut labels)?,
-            None => labels.push(label_named(alloc, place, word, ServeError::BadRoot)?)?,
+        if front_of(word.as_str()).is_some() {
+            return left_out(rt, alloc, asked, asked.top(place));
         }
     }
-    Ok(labels)
+    Ok(Vec::new(alloc))
 }
 
-/// The options, with the labels that their words name.
-fn with_labels(
+/// The roots that words name.
+fn roots_named(
     rt: &HostRuntime,
     alloc: Global,
     asked: &RepoAsked,
     place: &Place,
+    words: &[String],
+) -> Result<Roots, Refusal> {
+    let left_out = left_out_by(rt, alloc, asked, place, words)?;
+    let below = Below {
+        top: asked.top(place),
+        here: here_of(place).unwrap_or(""),
+        filter: Filter {
+            named: asked.pattern.as_str(),
+            left_out: left_out.as_slice(),
+        },
+        keeps_going: asked.keeps_going,
+    };
+    let mut roots = Roots {
+        labels: Vec::new(alloc),
+        left_out: BTreeMap::new(alloc),
+    };
+    for word in words {
+        let word = word.as_str();
+        match front_of(word) {
+            Some(front) => below.push(rt, alloc, word, front, &mut roots)?,
+            None => roots
+                .labels
+                .push(label_named(alloc, place, word, ServeError::BadRoot)?)?,
+        }
+    }
+    Ok(roots)
+}
+
+/// The options, with the labels that their words name.
+fn with_labels(
+    alloc: Global,
+    place: &Place,
     options: Options,
+    labels: Vec<String>,
 ) -> Result<Options, Refusal>
     requires loaders { (1 ≤ options.loaders) × (options.loaders ≤ 64) }
     requires steps { (1 ≤ options.mode.steps) × (options.mode.steps ≤ 100000000) }
@@ -275,7 +293,7 @@ fn with_labels(
     ensures steps { IfOk result (λ o. (1 ≤ o.mode.steps) × (o.mode.steps ≤ 100000000)) }
 {
     let mut options = options;
-    options.roots = roots_named(rt, alloc, asked, place, options.roots.as_slice())?;
+    options.roots = labels;
     if let Some(word) = options.prelude.take() {
         let label = label_named(alloc, place, word.as_str(), ServeError::BadPrelude)?;
         options.prelude = Some(label);
@@ -359,7 +377,9 @@ fn say_refusal(rt: &HostRuntime, refusal: &Refusal, is_told: bool) {
     }
 }
 
-/// Writes the report of the files that roots reach in a folder. The loaders are threads of `threads`.
+/// Writes the report of the files that roots reach in a folder, and says before it which files were found and are left
+/// out. It answers whether every module of the report is ok and no file is left out. The loaders are threads of
+/// `threads`.
 fn reported<H: Threads + Wait + Sync>(
     rt: &HostRuntime,
     threads: &H,
@@ -373,20 +393,21 @@ fn reported<H: Threads + Wait + Sync>(
     let Ok(place) = folder_place(rt, alloc, asked.dir.as_str()) else {
         return Err(Refusal::from(ServeError::BadDir));
     };
-    let options = with_labels(rt, alloc, asked, &place, options)?;
+    let Roots { labels, left_out } = roots_named(
+        rt,
+        alloc,
+        asked,
+        &place,
+        options.roots.as_slice(),
+    )?;
+    let options = with_labels(alloc, &place, options, labels)?;
+    say_left_out(rt, &left_out);
     let top = asked.top(&place);
     let mut folder = DiskRepo::new(rt, top);
-    let mut writer = CountedWriter::new(rt.stdout());
-    let mut errors = CountedWriter::new(rt.stderr());
-    match serve_repo(
-        threads,
-        alloc,
-        &mut folder,
-        &mut writer,
-        &mut errors,
-        &options,
-    ) {
-        Ok(all_ok) => Ok(all_ok),
+    let mut streams = Streams::of(rt, &options);
+    let (report, said) = (&mut streams.report, &mut streams.said);
+    match serve_repo(threads, alloc, &mut folder, report, said, &options) {
+        Ok(all_ok) => Ok(streams.ended(all_ok && left_out.is_empty())?),
         Err(error) => {
             let load = load_for(rt, threads, alloc, top, &options, &error);
             let about = about_for(rt, alloc, top, &options, &error);

@@ -62,12 +62,14 @@ fn read_over<'t, R: Threads + Wait + Sync>(
     requires files { 2 ≤ length files.now }
     requires readings { AreReadings files.now readings.old }
     requires prelude { readings.old.prelude ≡ None }
+    requires dialect { readings.old.dialect ≡ Dialect.Core }
     ensures { OnOk result (AreReadings files.now readings.new) }
 {
     let texts = Texts {
         files,
         trees: &arena.trees,
         parses: readings.parses.as_slice(),
+        dialect: Dialect::Core,
     };
     let none = Reads::new(alloc);
     let reads = read_parsed(rt, alloc, texts, none, &[0, 1], None, 2)?;
@@ -88,7 +90,7 @@ fn read_two<'t, R: Threads + Wait + Sync>(
     let mut parses = unparsed(alloc, files)?;
     let first = [0, 1].iter().copied().collect(alloc)?;
     parses.parse_reached(rt, alloc, files, &[], first, 2)?;
-    let mut readings = Readings::new(alloc, None);
+    let mut readings = Readings::new(alloc, None, Dialect::Core);
     readings.take_parses(rt, arena, files, &parses)?;
     read_over(rt, alloc, files, arena, &mut readings)?;
     Ok(readings)
@@ -111,6 +113,7 @@ fn the_reading_of_a_text_that_stays_is_kept(rt: HostRuntime) -> Result<(), Fail>
         alloc,
         &Compared::new(&before, &files, same.as_slice()),
         None,
+        Dialect::Core,
     );
     holds!(&rt; matches!(readings.reads.all.as_slice(), [Some(_), None]), "the first stays");
     holds!(&rt; matches!(readings.parses.as_slice(), [Some(_), None]), "so does its tree");
@@ -119,6 +122,7 @@ fn the_reading_of_a_text_that_stays_is_kept(rt: HostRuntime) -> Result<(), Fail>
         alloc,
         &Compared::new(&files, &files, same.as_slice()),
         Some(0),
+        Dialect::Core,
     );
     holds!(&rt; readings.reads.all.is_empty(), "with another prelude none stays");
     let none = Parses::new(alloc);

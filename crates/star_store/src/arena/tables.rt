@@ -193,7 +193,7 @@ fn earlier(one: Option<usize>, other: Option<usize>) -> Option<usize>
     }
 }
 
-/// Whether no tuple among the cells of a file has a value that another file made.
+/// Whether no tuple or struct among the cells of a file has a value that another file made.
 fn is_closed(home: u32, cells: &[HeapCell]) -> bool
     ensures { result ≡ is_closed home cells.now }
 {
@@ -210,6 +210,7 @@ fn is_closed_cell(home: u32, cell: &Cell) -> bool
 {
     match cell {
         Cell::Tuple(items) => are_home(home, items.as_slice()),
+        Cell::Struct(fields) => are_home(home, fields.get().values().as_slice()),
         _ => true,
     }
 }

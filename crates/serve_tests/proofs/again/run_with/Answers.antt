@@ -9,4 +9,4 @@ run_in-requires-clause-ends g c = λ lives within.
     subst (AreGoodEndsOf c.args.files.now c.args.roots.now None (record { steps = 100000; dialect = Core })) (sym c.as_slice-2.ensures.value) c.requires.ends
 
 pub run_in-requires-clause-reads : goal.run_in-requires-clause-reads
-run_in-requires-clause-reads g c = λ lives within. none_known c.args.files.now None c.new-reads.result.all.items c.new-reads.ensures
+run_in-requires-clause-reads g c = λ lives within. none_known c.args.files.now None Core c.new-reads.result.all.items c.new-reads.ensures

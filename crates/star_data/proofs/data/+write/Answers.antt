@@ -1,4 +1,4 @@
-use Rattle.std.proofs.Common.{arith, rules, ◌≡◌, ◌<◌, ◌-◌, ◌+◌, ◌∙◌, ◌∷◌, [], ℕ, List, Bor, Some, None, ap, sym, subst, length, map, suc, take, drop, get_or, refl}
+use Rattle.std.proofs.Common.{arith, rules, ◌≡◌, ◌<◌, ◌-◌, ◌+◌, ◌∙◌, ◌∷◌, [], ℕ, List, Bor, Some, None, IsUtf8, ap, sym, subst, true, length, map, suc, take, drop, get_or, refl}
 use Rattle.std.specs.Option.{IfSome, option_copied, option_map}
 use Rattle.std.proofs.lemmas.List.{drop_all, drop_more, take_all, take_more}
 use Rattle.std.specs.Result.{IfOk}
@@ -7,12 +7,15 @@ use Rattle.serde_json.specs.Data.{array, object}
 use Rattle.star_store.specs.declared.values.Value.{Value}
 use Rattle.star_store.specs.declared.values.Value.TheVariants.{NoneValue}
 use Rattle.star_store.specs.declared.values.Cell.TheVariants as cell
+use Rattle.std.specs.Prelude.{slice_get}
+use Rattle.star_store.specs.Fields.{names_of, rises}
 use Rattle.star_data.specs.Stores.{look_in}
 use Rattle.star_data.specs.Data.{cell_data, cell_of, data_of, entries_data, int_data, key_in, value_data}
 use Rattle.star_data.specs.Paths.{AllStandInEach, StandsInEach}
 use Rattle.star_data.specs.Rows.{IsRowOf}
 use Rattle.star_data.specs.Texts.{Sends, row_data}
-use Rattle.star_data.proofs.Builds.{at_place, by_ref, data_at, data_at_none, entry_no_key, in_a_dict, in_a_list, in_a_tuple, is_none, item_none, mapped_at, no_cell_data, one_back, rest_none}
+use Rattle.star_data.proofs.Builds.{at_place, by_ref, data_at, data_at_none, entry_no_key, in_a_dict, in_a_list, in_a_struct, in_a_tuple, is_none, item_none, mapped_at, no_cell_data, one_back, rest_none}
+use Rattle.star_data.proofs.Fields.{fields_begin, fields_end, fields_more, fields_none, from_place, rise_from}
 use Rattle.star_data.proofs.Sent.{HidesData, LeftMembers, SentItems, entry_hides_none, entry_more, found_stands, items_begin, items_end, items_more, members_begin, members_end, members_more, members_none, none_sent, says_none, says_some, sends_none, sends_some, sent_as, some_sent, stand_insert}
 use Rattle.star_data.proofs.data.+write.Goals as goal
 
@@ -25,6 +28,13 @@ write_cell-write_items-requires t c =
     let xs = c.as_slice.result.now in
     let is : cell_of see c.args.value ≡ Some (cell.Tuple xs) = search rules in
     (omega arith, in_a_tuple see c.args.path.now.items c.args.value xs is c.requires.path)
+
+pub write_cell-write_struct-requires : goal.write_cell-write_struct-requires
+write_cell-write_struct-requires t c =
+    let see = look_in c.args.stores.now in
+    let fs = c.get.result.now in
+    let is : cell_of see c.args.value ≡ Some (cell.Struct fs) = search rules in
+    (omega arith, in_a_struct see c.args.path.now.items c.args.value fs is c.requires.path)
 
 pub write_list-returns-then-is_within-clause-data : goal.write_list-returns-then-is_within-clause-data
 write_list-returns-then-is_within-clause-data t c =
@@ -315,6 +325,60 @@ write_row-returns-clause-data t c =
     let i = c.loop-member.member-index in
     let none_left : drop i es ≡ [] = drop_all i es (omega (arith, c.loop-member-test.false, c.loop-member.auto.member-index-end)) in
     members_end f es (drop i es) c.args.out.now.tokens c.loop-member.out.tokens c.end_object.new.self.tokens c.loop-member.invariant.sent none_left (search rules)
+
+-- ---- fields
+
+pub write_struct-loop-i-init : goal.write_struct-loop-i-init
+write_struct-loop-i-init t c =
+    let f = data_of (look_in c.args.stores.now) c.args.levels in
+    record {
+      path = search rules;
+      before = search rules;
+      sent = fields_begin f c.args.fields.now c.args.out.now.tokens c.begin_object.new.self.tokens (search rules);
+    }
+
+pub write_struct-write_value-requires : goal.write_struct-write_value-requires
+write_struct-write_value-requires t c =
+    let see = look_in c.args.stores.now in
+    let fs = c.args.fields.now in
+    let e : List ℕ × Value = (c.in-Some.name.now, c.in-Some.value) in
+    let at : slice_get fs c.loop-i.i ≡ Some e = search rules in
+    (omega arith, subst (λ p. StandsInEach see p e.1) (sym c.loop-i.invariant.path) (c.requires.all c.loop-i.i e.1 (mapped_at (λ f. f.1) fs c.loop-i.i e at)))
+
+pub write_struct-returns-then-not-branch-clause-data : goal.write_struct-returns-then-not-branch-clause-data
+write_struct-returns-then-not-branch-clause-data t c =
+    let f = data_of (look_in c.args.stores.now) c.args.levels in
+    let fs = c.args.fields.now in
+    let i = c.loop-i.i in
+    let e : List ℕ × Value = (c.in-Some.name.now, c.in-Some.value) in
+    let at : slice_get fs i ≡ Some e = search rules in
+    let none : f e.1 ≡ None = none_sent _ _ _ _ c.in_ok-write_value.ensures.data (search rules) in
+    sends_none _ _ _ (ap (option_map object) (fields_none f fs e (drop (i + 1) fs) (drop i fs) c.args.out.now.tokens c.loop-i.out.tokens c.loop-i.invariant.sent (from_place fs i e at) none))
+
+pub write_struct-loop-i-preserved : goal.write_struct-loop-i-preserved
+write_struct-loop-i-preserved t c =
+    let f = data_of (look_in c.args.stores.now) c.args.levels in
+    let fs = c.args.fields.now in
+    let i = c.loop-i.i in
+    let e : List ℕ × Value = (c.in-Some.name.now, c.in-Some.value) in
+    let there : slice_get fs i ≡ Some e = search rules in
+    let at = from_place fs i e there in
+    let order : rises (names_of fs) ≡ true = c.len-i-end.ensures.order in
+    let some = some_sent (f e.1) _ _ _ c.in_ok-write_value.ensures.data (search rules) in
+    let utf8 : IsUtf8 e.0 = subst IsUtf8 c.as_str.ensures c.as_str.utf8 in
+    record {
+      path = c.in_ok-write_value.ensures.path ∙ c.loop-i.invariant.path;
+      before = search rules;
+      sent = fields_more f fs e (drop (i + 1) fs) (drop i fs) some.0 c.args.out.now.tokens c.loop-i.out.tokens c.key.new.self.tokens c.write_value.new.out.tokens c.loop-i.invariant.sent at utf8 (rise_from fs i e (drop (i + 1) fs) order at) some.1 (search rules) some.2;
+    }
+
+pub write_struct-returns-clause-data : goal.write_struct-returns-clause-data
+write_struct-returns-clause-data t c =
+    let f = data_of (look_in c.args.stores.now) c.args.levels in
+    let fs = c.args.fields.now in
+    let i = c.loop-i.i in
+    let none_left : drop i fs ≡ [] = drop_all i fs (omega (arith, c.loop-i-test.false, c.len-i-end.ensures.count)) in
+    fields_end f fs (drop i fs) c.args.out.now.tokens c.loop-i.out.tokens c.end_object.new.self.tokens c.loop-i.invariant.sent none_left (search rules)
 
 -- ---- values
 

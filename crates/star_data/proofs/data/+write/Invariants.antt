@@ -3,6 +3,7 @@ use Rattle.star_data.specs.Stores.{look_in}
 use Rattle.star_data.specs.Data.{data_of, entries_data}
 use Rattle.star_data.specs.Paths.{AllStandInEach}
 use Rattle.star_data.specs.Texts.{row_data}
+use Rattle.star_data.proofs.Fields.{LeftFields}
 use Rattle.star_data.proofs.Sent.{LeftMembers, SentItems}
 use Rattle.star_data.proofs.data.+write.Given as goal
 
@@ -32,6 +33,9 @@ decreases-write_members l = 6 * l.levels + 1
 
 abbrev pub decreases-write_row : goal.decreases-write_row
 decreases-write_row l = 6 * l.levels + 1
+
+abbrev pub decreases-write_struct : goal.decreases-write_struct
+decreases-write_struct l = 6 * l.levels + 1
 
 abbrev pub decreases-write_value : goal.decreases-write_value
 decreases-write_value l = 6 * l.levels
@@ -64,4 +68,11 @@ invariant-write_row-loop-member l = record {
   path : l.path.items ≡ l.fn.path.items;
   before : l.out.before ≡ l.fn.out.before;
   sent : LeftMembers (data_of (look_in l.stores) l.levels) l.row (drop l.member-index l.row) l.fn.out.tokens l.out.tokens;
+}
+
+abbrev pub invariant-write_struct-loop-i : goal.invariant-write_struct-loop-i
+invariant-write_struct-loop-i l = record {
+  path : l.path.items ≡ l.fn.path.items;
+  before : l.out.before ≡ l.fn.out.before;
+  sent : LeftFields (data_of (look_in l.stores) l.levels) l.fields (drop l.i l.fields) l.fn.out.tokens l.out.tokens;
 }

@@ -6,4 +6,4 @@ pub run_in-requires-clause-ends : goal.run_in-requires-clause-ends
 run_in-requires-clause-ends g c = λ lives within. no_ends c.args.files.now c.args.options.roots.now c.args.options.prelude c.args.options.mode
 
 pub run_in-requires-clause-reads : goal.run_in-requires-clause-reads
-run_in-requires-clause-reads g c = λ lives within. none_known c.args.files.now c.args.options.prelude c.new-reads.result.all.items c.new-reads.ensures
+run_in-requires-clause-reads g c = λ lives within. none_known c.args.files.now c.args.options.prelude c.args.options.mode.dialect c.new-reads.result.all.items c.new-reads.ensures

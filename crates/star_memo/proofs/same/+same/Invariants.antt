@@ -4,22 +4,25 @@ use Rattle.star_memo.specs.Lasting.{is_data}
 use Rattle.star_memo.proofs.same.+same.Given as goal
 
 abbrev pub decreases-is_data : goal.decreases-is_data
-decreases-is_data l = 5 * l.levels + 1
+decreases-is_data l = 6 * l.levels + 1
 
 abbrev pub decreases-is_same : goal.decreases-is_same
-decreases-is_same l = 5 * l.levels
+decreases-is_same l = 6 * l.levels
 
 abbrev pub decreases-are_one : goal.decreases-are_one
-decreases-are_one l = 5 * l.levels + 4
+decreases-are_one l = 6 * l.levels + 5
+
+abbrev pub decreases-are_fields : goal.decreases-are_fields
+decreases-are_fields l = 6 * l.levels + 4
 
 abbrev pub decreases-are_same : goal.decreases-are_same
-decreases-are_same l = 5 * l.levels + 3
+decreases-are_same l = 6 * l.levels + 3
 
 abbrev pub decreases-is_same_entry : goal.decreases-is_same_entry
-decreases-is_same_entry l = 5 * l.levels + 2
+decreases-is_same_entry l = 6 * l.levels + 2
 
 abbrev pub decreases-have_same : goal.decreases-have_same
-decreases-have_same l = 5 * l.levels + 3
+decreases-have_same l = 6 * l.levels + 3
 
 abbrev pub invariant-are_same-loop-i : goal.invariant-are_same-loop-i
 invariant-are_same-loop-i l =

@@ -1,6 +1,6 @@
 use Rattle.std.proofs.Common.{◌∷◌, [], None, sym, ◌∙◌}
 use Rattle.star_scope.specs.declared.uses.ResolvedNames.{ResolvedNames}
-use Rattle.star_scope.specs.Chains.{names_outside}
+use Rattle.star_scope.specs.Chains.{outer_shown}
 use Rattle.star_scope.specs.ResolvedNames.{Places}
 use Rattle.star_scope.specs.Spots.{spot_at}
 use Rattle.star_scope.specs.Uses.{all_uses, in_statement, uses}
@@ -22,5 +22,5 @@ returns-clause-first c = (whole c).found
 
 pub returns-clause-spots : goal.returns-clause-spots
 returns-clause-spots c = λ none.
-    all_placed (spot_at c.place_statements.new.placed.spots) c.args.scope.now.blocks.now (names_outside c.args.scope.now.prelude) (uses c.args.statements.now)
+    all_placed (spot_at c.place_statements.new.placed.spots) c.args.scope.now.blocks.now (outer_shown c.args.scope.now.prelude c.args.scope.now.dialect) (uses c.args.statements.now)
     (sym (whole c).found ∙ none) (whole c).have

@@ -69,4 +69,4 @@ returns-in-Check-clause-untraced g c = if_ok-map c.checked_over.result (λ ok h 
 pub answered-requires-clause-reads : goal.answered-requires-clause-reads
 answered-requires-clause-reads g c =
     let asked = c.args.job.now.asked.now in
-    λ lives within. none_known asked.files asked.prelude c.new-reads.result.all.items c.new-reads.ensures
+    λ lives within. none_known asked.files asked.prelude c.args.options.now.mode.dialect c.new-reads.result.all.items c.new-reads.ensures

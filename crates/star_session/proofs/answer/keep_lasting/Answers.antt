@@ -50,9 +50,10 @@ add_lasting-requires-clause-reads g c =
     let asked = c.args.asked.now in
     let row = c.run_changed.new.staying.readings.reads.all.items in
     let terms : c.add.new.self.terms ≡ record { prelude = asked.prelude; mode = c.args.mode } = c.add.ensures.terms ∙ ap (λ (o : Outcomes). o.terms) c.run_changed.ensures.outcomes ∙ c.requires.terms in
-    let known = subst (λ p. AreKnown asked.files p row) (c.run_changed.ensures.seen ∙ c.requires.seen) c.in-Ok.ensures.readings.reads in
-    subst (λ (t : Terms). AreKnown c.run_changed.new.asked.files t.prelude row) (sym terms)
-    (subst (λ (a : AskedFor). AreKnown a.files asked.prelude row) (sym c.run_changed.ensures.asked) known)
+    let seen = subst (λ p. AreKnown asked.files p c.run_changed.new.staying.readings.dialect row) (c.run_changed.ensures.seen ∙ c.requires.seen) c.in-Ok.ensures.readings.reads in
+    let known = subst (λ d. AreKnown asked.files asked.prelude d row) (c.run_changed.ensures.dialect ∙ c.requires.dialect) seen in
+    subst (λ (t : Terms). AreKnown c.run_changed.new.asked.files t.prelude t.mode.dialect row) (sym terms)
+    (subst (λ (a : AskedFor). AreKnown a.files asked.prelude c.args.mode.dialect row) (sym c.run_changed.ensures.asked) known)
 
 pub returns-clause-ends : goal.returns-clause-ends
 returns-clause-ends g c =

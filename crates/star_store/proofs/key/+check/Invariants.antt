@@ -1,15 +1,18 @@
-use Rattle.std.proofs.Common.{◌≡◌, ◌≤◌, ◌-◌, drop}
+use Rattle.std.proofs.Common.{◌≡◌, ◌≤◌, ◌+◌, ◌*◌, drop}
 use Rattle.star_store.specs.Key.{check, check_each}
 use Rattle.star_store.specs.Store.{look}
 use Rattle.star_store.proofs.key.+check.Given as goal
 
 abbrev pub decreases-check : goal.decreases-check
-decreases-check l = l.levels
+decreases-check l = 2 * l.levels
 
-abbrev pub invariant-loop-item : goal.invariant-loop-item
-invariant-loop-item l =
-    let f = check (look l.arena l.homes) (l.levels - 1) in
+abbrev pub decreases-check_each : goal.decreases-check_each
+decreases-check_each l = 2 * l.levels + 1
+
+abbrev pub invariant-check_each-loop-item : goal.invariant-check_each-loop-item
+invariant-check_each-loop-item l =
+    let f = check (look l.arena l.homes) l.levels in
     record {
-      rest : check_each f (drop l.item-index l.item-items) l.steps ≡ check_each f l.item-items l.initial.steps;
-      less : l.steps ≤ l.initial.steps;
+      rest : check_each f (drop l.item-index l.items) l.steps ≡ check_each f l.items l.fn.steps;
+      less : l.steps ≤ l.fn.steps;
     }

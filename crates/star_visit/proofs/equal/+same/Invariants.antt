@@ -6,25 +6,28 @@ use Rattle.star_store.specs.Store.{look}
 use Rattle.star_visit.proofs.equal.+same.Given as goal
 
 abbrev pub decreases-same : goal.decreases-same
-decreases-same l = 5 * l.levels
+decreases-same l = 6 * l.levels
 
 abbrev pub decreases-same_values : goal.decreases-same_values
-decreases-same_values l = 5 * l.levels + 4
+decreases-same_values l = 6 * l.levels + 5
 
 abbrev pub decreases-same_cells : goal.decreases-same_cells
-decreases-same_cells l = 5 * l.levels + 3
+decreases-same_cells l = 6 * l.levels + 4
+
+abbrev pub decreases-same_fields : goal.decreases-same_fields
+decreases-same_fields l = 6 * l.levels + 3
 
 abbrev pub decreases-same_items : goal.decreases-same_items
-decreases-same_items l = 5 * l.levels + 2
+decreases-same_items l = 6 * l.levels + 2
 
 abbrev pub decreases-same_place : goal.decreases-same_place
-decreases-same_place l = 5 * l.levels + 1
+decreases-same_place l = 6 * l.levels + 1
 
 abbrev pub decreases-same_entries : goal.decreases-same_entries
-decreases-same_entries l = 5 * l.levels + 2
+decreases-same_entries l = 6 * l.levels + 2
 
 abbrev pub decreases-same_entry : goal.decreases-same_entry
-decreases-same_entry l = 5 * l.levels + 1
+decreases-same_entry l = 6 * l.levels + 1
 
 abbrev pub invariant-same_items-loop-i : goal.invariant-same_items-loop-i
 invariant-same_items-loop-i l =

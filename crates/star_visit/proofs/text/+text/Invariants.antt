@@ -1,5 +1,5 @@
 use Rattle.std.proofs.Common.{◌≡◌, ◌≤◌, ◌+◌, ◌*◌, ◌-◌}
-use Rattle.star_store.specs.Text.{all_said, say_entry, say_place, text}
+use Rattle.star_store.specs.Text.{all_said, say_entry, say_field, say_place, text}
 use Rattle.star_store.specs.Store.{look}
 use Rattle.star_visit.proofs.text.+text.Given as goal
 
@@ -14,6 +14,15 @@ decreases-put_cell l = 12 * l.levels + 8
 
 abbrev pub decreases-put_tuple : goal.decreases-put_tuple
 decreases-put_tuple l = 12 * l.levels + 7
+
+abbrev pub decreases-put_struct : goal.decreases-put_struct
+decreases-put_struct l = 12 * l.levels + 7
+
+abbrev pub decreases-put_fields : goal.decreases-put_fields
+decreases-put_fields l = 12 * l.levels + 4
+
+abbrev pub decreases-put_field : goal.decreases-put_field
+decreases-put_field l = 12 * l.levels + 3
 
 abbrev pub decreases-put_list : goal.decreases-put_list
 decreases-put_list l = 12 * l.levels + 7
@@ -53,4 +62,9 @@ invariant-put_items-loop-i l =
 abbrev pub invariant-put_entries-loop-i : goal.invariant-put_entries-loop-i
 invariant-put_entries-loop-i l =
     let f = say_entry (text (look l.arena l.homes) l.levels l.fn.page.path.items) l.entries in
+    record { rest : all_said f (l.count - l.i) l.i l.page.out l.page.steps ≡ all_said f l.count 0 l.fn.page.out l.fn.page.steps; less : l.page.steps ≤ l.fn.page.steps; path : l.page.path.items ≡ l.fn.page.path.items }
+
+abbrev pub invariant-put_fields-loop-i : goal.invariant-put_fields-loop-i
+invariant-put_fields-loop-i l =
+    let f = say_field (text (look l.arena l.homes) l.levels l.fn.page.path.items) l.fields in
     record { rest : all_said f (l.count - l.i) l.i l.page.out l.page.steps ≡ all_said f l.count 0 l.fn.page.out l.fn.page.steps; less : l.page.steps ≤ l.fn.page.steps; path : l.page.path.items ≡ l.fn.page.path.items }

@@ -1,5 +1,4 @@
 use Rattle.std.proofs.Common.{inl, inr, refl, sym, subst, ◌∙◌}
-use Rattle.star_label.specs.View.{text_of}
 use Rattle.star_words.specs.Named.{labels_of}
 use Rattle.star_words.specs.Rows.{IsIn}
 use Rattle.star_bundle.proofs.Labels.{is_some_label}

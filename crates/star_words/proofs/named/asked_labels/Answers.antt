@@ -1,7 +1,6 @@
-use Rattle.std.proofs.Common.{◌≡◌, ◌∙◌, List, ℕ, Some, None, Bor, String, Global, ap, subst, sym, string_bytes}
-use Rattle.std.specs.Prelude.{◌↔◌, ◌⊎◌, option_map}
+use Rattle.std.proofs.Common.{◌∙◌, List, ℕ, Some, Bor, String, Global, subst, sym, string_bytes}
+use Rattle.std.specs.Prelude.{option_map}
 use Rattle.star_words.specs.Named.{AreAsked, labels_of, texts_of}
-use Rattle.star_words.specs.Rows.{IsIn}
 use Rattle.star_words.proofs.Labels.{with_prelude, without_prelude}
 use Rattle.star_words.proofs.named.asked_labels.Goals as goal
 

@@ -1,10 +1,10 @@
 use Rattle.std.proofs.Common.{◌≡◌, ◌+◌, ◌≤◌, length}
-use Rattle.star_scope.specs.Chains.{names_outside, numbers}
+use Rattle.star_scope.specs.Chains.{numbers, outer_shown}
 use Rattle.star_scope.specs.Places.{chain_length, spot_in, spot_of}
 use Rattle.star_scope.proofs.chain.Chain.spot_of.Given as goal
 
 abbrev pub invariant-loop-link : goal.invariant-loop-link
 invariant-loop-link l = record {
-  same : spot_in l.scope.blocks.now (names_outside l.scope.prelude) l.name l.up (numbers l.link) ≡ spot_of l.scope.blocks.now (names_outside l.scope.prelude) l.name l.fn.self;
+  same : spot_in l.scope.blocks.now (outer_shown l.scope.prelude l.scope.dialect) l.name l.up (numbers l.link) ≡ spot_of l.scope.blocks.now (outer_shown l.scope.prelude l.scope.dialect) l.name l.fn.self;
   short : l.up + length (numbers l.link) ≤ chain_length;
 }

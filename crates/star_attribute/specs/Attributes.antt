@@ -1,0 +1,13 @@
+-- Attributes of the code, as the definitions have them, and names as their bytes.
+use Rattle.std.specs.Prelude.{ℕ, List, map}
+use denote.Ref.{Bor}
+use Rattle.star_attribute.specs.declared.attributes.Attribute.{Attribute}
+use Rattle.star_attribute.specs.declared.attributes.Attribute.TheVariants as attribute
+use Rattle.star_meaning.specs.Attributes as meaning
+
+abbrev pub attribute_of : Attribute → meaning.Attribute
+attribute_of (attribute.Field v) = meaning.Field v
+attribute_of (attribute.OfType m) = meaning.OfType m
+
+abbrev pub shown_names : List (Bor (List ℕ)) → List (List ℕ)
+shown_names ns = map (λ n. n.now) ns
