@@ -5,6 +5,7 @@ use crate::look::{Look, found_at};
 use crate::parts::word_of;
 use crate::search::Visit;
 use star_call::callee::definition_number;
+use star_dialect::Dialect;
 use star_found::about::{About, Found, Misfit, Place, Shown, Turn, Type};
 use star_machine::content::Kind;
 use star_meaning::fault::FaultCode;
@@ -17,11 +18,17 @@ use std::alloc::{AllocError, Global};
 const MOST_ITEMS: usize = 10_000;
 
 /// The keyword arguments that a built-in function or a method takes; `None` if it takes any name.
-fn names_of(name: &str) -> Option<&'static [&'static str]> {
+fn names_of(dialect: Dialect, name: &str) -> Option<&'static [&'static str]> {
+    let keys = match dialect {
+        Dialect::Core => false,
+        Dialect::Extended => true,
+    };
     match name {
         "dict" | "update" | "format" | "struct" => None,
         "print" => Some(&["sep"]),
+        "sorted" if keys => Some(&["key", "reverse"]),
         "sorted" => Some(&["reverse"]),
+        "max" | "min" if keys => Some(&["key"]),
         _ => Some(&[]),
     }
 }
@@ -200,6 +207,30 @@ impl<'w, 'a, 't> Look<'w, 'a, 't> {
         Ok(Some(found_at(self.alloc, place, about)))
     }
 
+    /// A call of the function of `key`, which is given one value, that does not fit or is already active.
+    fn function_of_key(
+        &mut self,
+        word: Option<usize>,
+        name: &'static str,
+        given: &Arguments,
+    ) -> Result<Option<Found>, AllocError> {
+        if given.plain.is_empty() || !matches!(name, "sorted" | "max" | "min") {
+            return Ok(None);
+        }
+        let Some(named) = given.named("key") else {
+            return Ok(None);
+        };
+        let (token, Some(key)) = (named.token, named.value) else {
+            return Ok(None);
+        };
+        if !matches!(self.kind(key), Kind::Function) {
+            return Ok(None);
+        }
+        let mut one = Arguments::new(self.alloc);
+        one.plain.push(key)?;
+        self.function(token.or(word), key, &one)
+    }
+
     /// A call of a built-in function, or of a method of a receiver.
     fn built_in(
         &mut self,
@@ -209,7 +240,7 @@ impl<'w, 'a, 't> Look<'w, 'a, 't> {
         given: &Arguments,
     ) -> Result<Option<Found>, AllocError> {
         if self.fault.code == FaultCode::Args {
-            if let Some(names) = names_of(name) {
+            if let Some(names) = names_of(self.world.setting().dialect(), name) {
                 if let Some(named) = given.unknown(names) {
                     let callee = Shown {
                         of: Type::BuiltIn,
@@ -219,6 +250,9 @@ impl<'w, 'a, 't> Look<'w, 'a, 't> {
                     return self.misfitting(word, callee, (misfit, named.token), names);
                 }
             }
+        }
+        if let Some(found) = self.function_of_key(word, name, given)? {
+            return Ok(Some(found));
         }
         if name == "format" {
             if let Some(found) = self.field_of_format(word, receiver, given)? {

@@ -9,6 +9,7 @@ pub mod BoundAttributes
 pub mod BoundPairs
 pub mod BoundListMethods
 pub mod BoundDictMethods
+pub mod BoundOrders
 pub mod BoundBuiltIns
 pub mod BoundFormat
 pub mod BoundTextMethods
@@ -35,6 +36,7 @@ pub mod NarrowAttributes
 pub mod NarrowPairs
 pub mod NarrowListMethods
 pub mod NarrowDictMethods
+pub mod NarrowOrders
 pub mod NarrowBuiltIns
 pub mod NarrowFormat
 pub mod NarrowTextMethods

@@ -1,7 +1,9 @@
+pub mod Contents
 pub mod Digits
 pub mod Fields
+pub mod Keyed
 pub mod Loops
+pub mod Merging
 pub mod Only
-pub mod Orders
 pub mod Pairs
 pub mod Sorting

@@ -1,4 +1,4 @@
-//! `max` and `min`.
+//! `max` and `min` without `key`.
 
 ghost use Rattle.std.specs.Prelude.{◌≡◌};
 ghost use Rattle.star_meaning.specs.BuiltIns as spec;
@@ -22,7 +22,7 @@ pub enum Best {
 
 impl Best {
     /// Whether a value is better than the best so far, from their order.
-    fn prefers(self, order: Ordering) -> bool
+    pub(crate) fn prefers(self, order: Ordering) -> bool
         ensures { result ≡ better self order }
     {
         match self {

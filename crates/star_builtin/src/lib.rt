@@ -4,8 +4,9 @@
 //! the work on values comes first, and the functions `call_..` at its end unpack the arguments and do that work. Two
 //! built-in functions that differ in one step share one function, which is given the choice between them.
 //!
-//! No built-in function runs a function of the program: `sorted` takes `reverse` and no `key`. Each is given a `Call`,
-//! the type of `star_machine`; `Best`, `Form` and `Row` say which of two functions is called. It has no state.
+//! No built-in function runs a function of the program: for `key`, `star_eval` calls it between two steps of `orders`.
+//! Each is given a `Call`, the type of `star_machine`; `Best`, `Form` and `Row` say which of two functions is called. It
+//! has no state.
 //!
 //! The promise of each `call_..` is `Refines` of `star_machine`: it has the result of its definition in
 //! `star_meaning/specs/BuiltIns`, the fault, the payments and the printed lines included.
@@ -18,6 +19,7 @@ pub mod characters;
 pub mod dicts;
 mod ints;
 pub mod numbers;
+pub mod orders;
 pub mod print;
 pub mod ranges;
 pub mod rows;

@@ -1,4 +1,4 @@
-//! `sorted`: of ints or of strings, with `reverse` and without `key`.
+//! `sorted` without `key`: of ints or of strings; in the extended language also of other values, by `orders`.
 //!
 //! It uses the standard library's stable sort, by one order of all contents, which on ints alone and on strings alone
 //! is the definition's. That a stable rising list is the definition's is a lemma (`proofs/Sorting`). Items are copied
@@ -7,11 +7,14 @@
 ghost use Rattle.std.specs.Prelude.{◌≡◌, IfOk, map, true};
 ghost use Rattle.std.specs.List.{list_all};
 ghost use Rattle.star_meaning.specs.BuiltIns as spec;
+ghost use Rattle.star_meaning.specs.Orders as orders;
 ghost use Rattle.star_meaning.specs.Sorting as sorting;
 ghost use Rattle.star_machine.specs.Refines.{Refines};
 ghost use Rattle.star_meaning.specs.Values.{content};
 ghost use Rattle.star_builtin.specs.Orders.{by_contents, int_in};
 
+use crate::orders::{each_by_itself, sort_by, want_reverse};
+use star_dialect::Dialect;
 use star_machine::call::Call;
 use star_machine::content::Content;
 use star_machine::fault::{EvalError, fault_at};
@@ -23,7 +26,7 @@ use std::alloc::AllocError;
 use std::cmp::Ordering;
 
 fn is_int(machine: &Machine, setting: &Setting, value: Value) -> bool
-    ensures { result ≡ spec.is_int (content setting.now machine.now value) }
+    ensures { result ≡ orders.is_int (content setting.now machine.now value) }
 {
     match machine.content(setting, value) {
         Content::Number(_) => true,
@@ -32,7 +35,7 @@ fn is_int(machine: &Machine, setting: &Setting, value: Value) -> bool
 }
 
 fn is_text(machine: &Machine, setting: &Setting, value: Value) -> bool
-    ensures { result ≡ spec.is_text (content setting.now machine.now value) }
+    ensures { result ≡ orders.is_text (content setting.now machine.now value) }
 {
     match machine.content(setting, value) {
         Content::Held(Cell::Text(_)) => true,
@@ -41,7 +44,7 @@ fn is_text(machine: &Machine, setting: &Setting, value: Value) -> bool
 }
 
 fn are_ints(machine: &Machine, setting: &Setting, values: &[Value]) -> bool
-    ensures { result ≡ list_all spec.is_int (map (content setting.now machine.now) values.now) }
+    ensures { result ≡ list_all orders.is_int (map (content setting.now machine.now) values.now) }
 {
     for value in values {
         if !is_int(machine, setting, *value) {
@@ -52,7 +55,7 @@ fn are_ints(machine: &Machine, setting: &Setting, values: &[Value]) -> bool
 }
 
 fn are_texts(machine: &Machine, setting: &Setting, values: &[Value]) -> bool
-    ensures { result ≡ list_all spec.is_text (map (content setting.now machine.now) values.now) }
+    ensures { result ≡ list_all orders.is_text (map (content setting.now machine.now) values.now) }
 {
     for value in values {
         if !is_text(machine, setting, *value) {
@@ -63,8 +66,8 @@ fn are_texts(machine: &Machine, setting: &Setting, values: &[Value]) -> bool
 }
 
 /// Whether all values are ints, or all are strings.
-fn can_sort(machine: &Machine, setting: &Setting, values: &[Value]) -> bool
-    ensures { result ≡ spec.can_sort (map (content setting.now machine.now) values.now) }
+pub(crate) fn can_sort(machine: &Machine, setting: &Setting, values: &[Value]) -> bool
+    ensures { result ≡ orders.can_sort (map (content setting.now machine.now) values.now) }
 {
     are_ints(machine, setting, values) || are_texts(machine, setting, values)
 }
@@ -77,7 +80,7 @@ fn int_in(machine: &Machine, setting: &Setting, value: Value) -> i64
 }
 
 /// The order of two ints, or of two strings by their bytes.
-fn order(machine: &Machine, setting: &Setting, x: Value, y: Value) -> Ordering
+pub(crate) fn order(machine: &Machine, setting: &Setting, x: Value, y: Value) -> Ordering
     ensures { result ≡ by_contents (content setting.now machine.now x) (content setting.now machine.now y) }
 {
     match int_in(machine, setting, x).cmp(&int_in(machine, setting, y)) {
@@ -92,9 +95,9 @@ fn in_order(
     setting: &Setting,
     values: &[Value],
 ) -> Result<Vec<Value>, AllocError>
-    requires { spec.can_sort (map (content setting.now machine.now) values.now) ≡ true }
+    requires { orders.can_sort (map (content setting.now machine.now) values.now) ≡ true }
     ensures { IfOk result (λ r. r.items
-        ≡ sorting.in_order (λ x y. spec.is_before (content setting.now machine.now x)
+        ≡ sorting.in_order (λ x y. orders.is_before (content setting.now machine.now x)
         (content setting.now machine.now y)) values.now) }
 {
     let mut items = Vec::from_slice(machine.alloc(), values)?;
@@ -130,26 +133,44 @@ fn sort(
     machine.new_list(line, turned(backwards, items))
 }
 
+/// Values in order, in a new list: in the core of ints or of strings, else `BadType`; in the extended language of what
+/// has an order.
+fn sort_items(
+    machine: &mut Machine,
+    call: &Call,
+    backwards: bool,
+    values: &[Value],
+) -> Result<Value, EvalError>
+    ensures { Refines (spec.sort_items call.now.setting.now call.now.levels call.now.line backwards values.now
+        call.now.setting.now.dialect machine.old) result machine.new }
+{
+    match call.setting.dialect() {
+        Dialect::Core => sort(machine, call.setting, call.line, backwards, values),
+        Dialect::Extended => {
+            let pairs = each_by_itself(machine.alloc(), values)?;
+            sort_by(
+                machine,
+                call.setting,
+                call.levels,
+                call.line,
+                backwards,
+                &pairs,
+            )
+        }
+    }
+}
+
 /// `sorted(it, reverse=False)`: all items in order, in a new list. `Args` for another number of values and for a
-/// keyword argument but `reverse`, `BadType` if `it` is not iterable, if `reverse` is not a bool, and unless all items
-/// are ints, or all are strings.
+/// keyword argument but `reverse`, `BadType` if `it` is not iterable, if `reverse` is not a bool, and if two items have
+/// no order.
 pub fn call_sorted(machine: &mut Machine, call: &Call) -> Result<Value, EvalError>
-    ensures { Refines (spec.call_sorted call.now.setting.now call.now.line call.now.given.now machine.old)
+    ensures { Refines (spec.call_sorted call.now.setting.now call.now.levels call.now.line call.now.given.now machine.old)
         result machine.new }
 {
     let (values, reverse) = machine.with_name(call.line, "reverse", call.given)?;
     let value = machine.only_one(call.line, values)?;
     let count = machine.count_of(call.setting, call.line, value)?;
-    let backwards = match reverse {
-        Some(reverse) => machine.want_bool(call.setting, call.line, reverse)?,
-        None => false,
-    };
+    let backwards = want_reverse(machine, call.setting, call.line, reverse)?;
     let items = machine.take_items(call.setting, call.line, value, count)?;
-    sort(
-        machine,
-        call.setting,
-        call.line,
-        backwards,
-        items.as_slice(),
-    )
+    sort_items(machine, call, backwards, items.as_slice())
 }

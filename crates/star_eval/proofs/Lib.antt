@@ -1,5 +1,6 @@
+pub mod Bound
 pub mod Clauses
 pub mod Fresh
+pub mod Keys
 pub mod Spends
 pub mod Turns
-pub mod Bound

@@ -6,7 +6,7 @@ use Rattle.star_outline.specs.Definitions.{definition_of}
 use Rattle.star_meaning.specs.declared.given.Arguments.{Arguments}
 use Rattle.star_meaning.specs.declared.site.Site.{Site}
 use Rattle.star_meaning.specs.Binding.{BoundArgument}
-use Rattle.star_meaning.specs.Calls.{called}
+use Rattle.star_meaning.specs.Calls.{called, called_plainly}
 use Rattle.star_meaning.specs.Run.{State, Action}
 use Rattle.star_meaning.specs.Values.{content}
 use Rattle.star_machine.specs.declared.fault.EvalError.{EvalError}
@@ -31,6 +31,11 @@ calling_positional w levels p f vs = calling w levels p f (positional_arguments 
 -- the call of a callee with these arguments
 abbrev pub calling_with : World → ℕ → Site → Callee → Arguments → Action Value
 calling_with w levels p c g = λ s. called w.setting levels (semantics w levels) p (shown (content w.setting s) c) g s
+
+-- the same without a function of `key`
+abbrev pub calling_plainly : World → ℕ → Site → Callee → Arguments → Action Value
+calling_plainly w levels p c g =
+    λ s. called_plainly w.setting levels (semantics w levels) p (shown (content w.setting s) c) g s
 
 -- The answer is the answer of the call, whichever shares are bound so.
 abbrev pub GivesBound : World → ℕ → Site → Called → Bound → State → Result Value EvalError → State → Type 0

@@ -17,7 +17,7 @@ ghost use Rattle.star_enter.specs.Entering.{left};
 ghost use Rattle.star_world.specs.World.{semantics};
 ghost use Rattle.star_call.specs.Callees.{IsDefined, IsFound};
 ghost use Rattle.star_call.specs.EvaluatedArgument as passing;
-ghost use Rattle.star_eval.specs.Calling.{GivesBound, calling, calling_positional, calling_with};
+ghost use Rattle.star_eval.specs.Calling.{GivesBound, calling, calling_plainly, calling_positional, calling_with};
 ghost use Rattle.star_eval.specs.Forms.{evaluating};
 
 use crate::comprehensions::{make_dict, make_list};
@@ -27,6 +27,7 @@ use crate::nodes::{
     evaluate_comparison, evaluate_dict, evaluate_index, evaluate_list, evaluate_or, evaluate_slice,
     evaluate_tuple, evaluate_unary,
 };
+use crate::orders::{call_by_key, takes_key};
 use sqlite_items::{Boxed, Items};
 use star_attribute::methods::call_method;
 use star_builtin::calls::call_built_in;
@@ -44,6 +45,7 @@ use star_meaning::given::Arguments;
 use star_meaning::site::{Flow, Site};
 use star_outline::outline::{Body, Definition};
 use star_store::defaults::Defaults;
+use star_store::names::BuiltIn;
 use star_store::values::{Entries, Value, Values};
 use star_tree::tree::{Argument, Entry, Expression, Parameter};
 use star_world::construct::{new_closure, new_string};
@@ -507,7 +509,8 @@ fn call_with(
     answer
 }
 
-/// A call with evaluated arguments: a function's are bound, or `Args`; then it runs, at a level of its own.
+/// A call with evaluated arguments: a function's are bound, or `Args`; then it runs, at a level of its own. `sorted`,
+/// `max` and `min` may call a function in turn.
 #[cycle(run)]
 fn call_on(
     machine: &mut Machine,
@@ -519,6 +522,59 @@ fn call_on(
 ) -> Result<Value, EvalError>
     requires { IsFound world.now.setting callee }
     ensures { Refines (calling_with world.now levels site.now callee.entry given.now machine.old) result machine.new }
+{
+    let line = site.line;
+    match callee {
+        Callee::AFunction(called) => call_function(machine, world, levels, site, called, given),
+        Callee::ABuiltIn(function) => {
+            call_built_in_on(machine, world, levels, site, function, given)
+        }
+        Callee::AMethod(method, receiver) => {
+            call_method(
+                machine,
+                world.setting(),
+                levels,
+                line,
+                method,
+                receiver,
+                given,
+            )
+        }
+    }
+}
+
+/// A call of a built-in function: with `key`, or plainly.
+#[cycle(run)]
+fn call_built_in_on(
+    machine: &mut Machine,
+    world: &World,
+    levels: u32,
+    site: &Site,
+    function: BuiltIn,
+    given: &Arguments,
+) -> Result<Value, EvalError>
+    // It is long since it names each argument of the definition.
+    ensures { Refines (calls.called_built_in world.now.setting levels (semantics world.now levels) site.now function
+        given.now (calls.takes_key world.now.setting.dialect given.now) machine.old) result machine.new }
+{
+    if takes_key(world, given) {
+        return call_by_key(machine, world, levels, site, function, given);
+    }
+    call_built_in(machine, world.setting(), levels, site.line, function, given)
+}
+
+/// A plain call with evaluated arguments: a function's are bound, or `Args`; then it runs, at a level of its own.
+#[cycle(run)]
+pub(crate) fn call_plainly(
+    machine: &mut Machine,
+    world: &World,
+    levels: u32,
+    site: &Site,
+    callee: Callee<'_>,
+    given: &Arguments,
+) -> Result<Value, EvalError>
+    requires { IsFound world.now.setting callee }
+    ensures { Refines (calling_plainly world.now levels site.now callee.entry given.now machine.old) result machine.new }
 {
     let line = site.line;
     match callee {
@@ -553,7 +609,7 @@ fn call_function(
     given: &Arguments,
 ) -> Result<Value, EvalError>
     requires { IsDefined world.now.setting called }
-    ensures { Refines (calling_with world.now levels site.now (Callee.AFunction called.entry) given.now machine.old)
+    ensures { Refines (calling_plainly world.now levels site.now (Callee.AFunction called.entry) given.now machine.old)
         result machine.new }
 {
     if fit_positionally(called.definition.parameters, given) {

@@ -2,6 +2,7 @@
 //!
 //! - `evaluate` has expressions and calls: names and literals at once, all other forms in one `match` (`evaluate_any`),
 //!   and `call` with its three ways to bind arguments. `nodes` has a function for each form of expression.
+//! - `orders` has calls of `sorted`, `max` and `min` with `key`, which call a function for each item.
 //! - `execute` has statements and assignment to targets; `targets` and `parts` help augmented assignments.
 //! - `comprehensions` runs the clauses of a comprehension in two loops, without recursion; `open_clause` and `output`
 //!   are their state.
@@ -22,6 +23,7 @@ pub mod evaluate;
 pub mod execute;
 mod nodes;
 mod open_clause;
+mod orders;
 mod output;
 mod parts;
 mod targets;

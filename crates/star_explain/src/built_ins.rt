@@ -1,5 +1,6 @@
 //! The arguments that built-in functions and methods take.
 
+use star_dialect::Dialect;
 use star_found::about::Type;
 use star_strings::table::{Entry, Kind, StringMethod};
 
@@ -227,7 +228,10 @@ fn row_count(entry: &Entry) -> &'static str {
     }
 }
 
-fn method_count(name: &str, receiver: Type) -> &'static str {
+fn method_count(dialect: Dialect, name: &str, receiver: Type) -> &'static str {
+    if let (Dialect::Extended, Type::List, "index") = (dialect, receiver, name) {
+        return "one to three values";
+    }
     for (kind, method, count) in METHOD_COUNTS {
         if *kind == receiver && *method == name {
             return *count;
@@ -240,9 +244,9 @@ fn method_count(name: &str, receiver: Type) -> &'static str {
 }
 
 /// How many values a built-in function, or a method of a receiver of a type, takes.
-pub(crate) fn count(name: &str, receiver: Option<Type>) -> &'static str {
+pub(crate) fn count(dialect: Dialect, name: &str, receiver: Option<Type>) -> &'static str {
     match receiver {
-        Some(receiver) => method_count(name, receiver),
+        Some(receiver) => method_count(dialect, name, receiver),
         None => function_count(name),
     }
 }

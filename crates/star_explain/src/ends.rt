@@ -5,6 +5,7 @@ use crate::texts::{Said, Saying};
 use crate::trail::Trail;
 use crate::words::{Lexicon, file_of};
 use star_check::verdict::{Judged, Verdict};
+use star_dialect::Dialect;
 use star_found::about::Found;
 use star_label::files::Files;
 use star_meaning::fault::FaultCode;
@@ -71,6 +72,7 @@ impl EvalError {
         &mut self,
         alloc: Global,
         lexicon: &mut Lexicon<'_>,
+        dialect: Dialect,
         code: FaultCode,
         found: &Found,
     ) -> Result<(), AllocError> {
@@ -84,6 +86,7 @@ impl EvalError {
             alloc,
             code,
             found,
+            dialect,
             module: words.module(found),
             bound_on: words.line_of_global(found),
         };
@@ -142,6 +145,7 @@ fn end_of(module: &Module) -> End {
 fn stop_of(
     alloc: Global,
     lexicon: &mut Lexicon<'_>,
+    dialect: Dialect,
     reads: &Reads,
     module: &Module,
 ) -> Result<EvalError, AllocError> {
@@ -163,7 +167,7 @@ fn stop_of(
         }
     }
     if let Some(found) = found {
-        stop.tell(alloc, lexicon, *code, found)?;
+        stop.tell(alloc, lexicon, dialect, *code, found)?;
     }
     Ok(stop)
 }
@@ -190,6 +194,7 @@ impl Ends {
     pub(crate) fn of(
         alloc: Global,
         files: &Files,
+        dialect: Dialect,
         reads: &Reads,
         run: &mut Run,
     ) -> Result<Ends, AllocError> {
@@ -198,7 +203,7 @@ impl Ends {
         for i in 0..run.len() {
             let note = run.note(i);
             let module = run.module(i, note);
-            all.add(alloc, &mut lexicon, reads, module)?;
+            all.add(alloc, &mut lexicon, dialect, reads, module)?;
         }
         Ok(all)
     }
@@ -207,6 +212,7 @@ impl Ends {
         &mut self,
         alloc: Global,
         lexicon: &mut Lexicon<'_>,
+        dialect: Dialect,
         reads: &Reads,
         module: &Module,
     ) -> Result<(), AllocError> {
@@ -216,7 +222,7 @@ impl Ends {
         if let Some(loads) = self.loads.get_mut(n) {
             loads.extend_from_slice(module.loads.as_slice())?;
         }
-        let stop = stop_of(alloc, lexicon, reads, module)?;
+        let stop = stop_of(alloc, lexicon, dialect, reads, module)?;
         if let Some(place) = self.stops.get_mut(n) {
             *place = stop;
         }

@@ -76,14 +76,17 @@ const METHODS: &[(Type, &'static str, &'static str)] = &[
     (Type::List, "add", "write `xs.append(x)`"),
 ];
 
+/// The help for `max` and `min` with `key`.
+const KEY: &str = "`key = f` is in the extended language: `--language extended`";
+
 /// The help for a wrong number of arguments of a built-in function or a method.
 const ARGUMENTS: &[(&'static str, &'static str)] = &[
     (
         "sorted",
-        "it has no `key`: put the items into a dict by their keys, and sort those",
+        "`key = f` is in the extended language: `--language extended`; here put the items into a dict by their keys, and sort those",
     ),
-    ("max", "it has no `key`"),
-    ("min", "it has no `key`"),
+    ("max", KEY),
+    ("min", KEY),
 ];
 
 /// What to write in place of a method that a type does not have.

@@ -3,6 +3,7 @@
 use crate::built_ins::{Wanted, count, is_extended, methods, wanted_by};
 use crate::instead::{of_arguments, of_method};
 use crate::words::unquoted;
+use star_dialect::Dialect;
 use star_found::about::{About, Found, Misfit, Shown, Type};
 use star_meaning::fault::FaultCode;
 use star_mistakes::message::{Part, message, push_message};
@@ -25,6 +26,8 @@ pub(crate) struct Saying<'a> {
     pub alloc: Global,
     pub code: FaultCode,
     pub found: &'a Found,
+    /// The dialect of the run.
+    pub dialect: Dialect,
     /// The string of the load statement, if the fault is in one.
     pub module: &'a str,
     /// The line on which a global that has no value gets one, if it is known.
@@ -433,7 +436,7 @@ impl<'a> Saying<'a> {
         let text = match call.name {
             "join" => "` takes strings alone",
             "dict" | "update" => "` takes a dict, or an iterable of pairs",
-            "sorted" => "` takes ints alone or strings alone",
+            "sorted" => self.ordered_items(),
             "max" | "min" => return self.ordered(call),
             "print" | "fail" => {
                 return match call.first {
@@ -448,9 +451,17 @@ impl<'a> Saying<'a> {
         self.of_built_in(call.name, text, call.first)
     }
 
+    /// What `sorted`, `max` and `min` take.
+    fn ordered_items(self) -> &'static str {
+        match self.dialect {
+            Dialect::Core => "` takes ints alone or strings alone",
+            Dialect::Extended => "` takes items that have an order, and as `key` a function",
+        }
+    }
+
     /// The values that have no order, in a call of `max` or `min`.
     fn ordered(self, call: BuiltInCall) -> Result<Option<String>, AllocError> {
-        let text = "` takes ints alone or strings alone";
+        let text = self.ordered_items();
         let (Some(first), Some(second)) = (call.first, call.second) else {
             return self.of_built_in(call.name, text, call.first);
         };
@@ -522,7 +533,7 @@ impl<'a> Saying<'a> {
 
     /// A wrong number of arguments in a call of a built-in function, or of a method.
     fn built_in_count(self, call: BuiltInCall) -> Result<Option<String>, AllocError> {
-        let count = count(call.name, type_of(call.receiver));
+        let count = count(self.dialect, call.name, type_of(call.receiver));
         self.text_of(&[
             Part::Plain("`"),
             Part::Plain(call.name),

@@ -10,6 +10,9 @@ use star_meaning::story::Step;
 use star_mistakes::place::{Line, Mark, Naming, push_column, push_place, text_of};
 use std::alloc::{AllocError, Global};
 
+/// The words before the place of a call.
+const FROM: &str = "  called from ";
+
 /// How many calls are listed.
 const CALLS: usize = 10;
 
@@ -138,6 +141,22 @@ fn place_of(lexicon: &mut Lexicon<'_>, call: Step) -> Result<Option<Mark>, Alloc
     }
 }
 
+/// The words before the place of a call: by the built-in function that called, if its word is that of one that calls.
+fn words_of(lexicon: &mut Lexicon<'_>, call: Step) -> Result<&'static str, AllocError> {
+    let Step::From { token, .. } = call else {
+        return Ok(FROM);
+    };
+    let Some(words) = lexicon.words(file_of(call))? else {
+        return Ok(FROM);
+    };
+    Ok(match words.word(token) {
+        "sorted" => "  called by `sorted` from ",
+        "max" => "  called by `max` from ",
+        "min" => "  called by `min` from ",
+        _ => FROM,
+    })
+}
+
 /// The calls that led to the innermost statement, a line each.
 pub(crate) fn callers(
     alloc: Global,
@@ -155,7 +174,7 @@ pub(crate) fn callers(
             (None, Some((file, line))) => mark_of_line(files, file, line),
             (None, None) => continue,
         };
-        notes.push_str("  called from ")?;
+        notes.push_str(words_of(lexicon, *call)?)?;
         push_place(&mut notes, files, mark, naming)?;
         if place.is_some() {
             push_column(&mut notes, files, mark)?;

@@ -6,3 +6,4 @@ pub mod Calls
 pub mod BoundArguments
 pub mod Iterations
 pub mod Dialects
+pub mod Orders

@@ -1,10 +1,11 @@
-//! Laws of the definitions of arithmetic, ranges, keys, calls, open iterations and dialects.
+//! Laws of the definitions of arithmetic, ranges, keys, calls, open iterations, dialects and orders.
 
 ghost use Rattle.star_laws.specs.Calls.{BoundWhereTheyFit, GivenNamesDiffer};
 ghost use Rattle.star_laws.specs.Dialects.{CoreCallsItsOwn, CoreHasItsMethods, ExtendedHasThem};
 ghost use Rattle.star_laws.specs.Division.{OneQuotient, QuotientAndRemainder};
 ghost use Rattle.star_laws.specs.Iterations.{FilesBeginWithNoLoop, LoopsAreCounted, OpenIterationsAreOpenLoops, RunsEndTheirLoops};
 ghost use Rattle.star_laws.specs.Keys.{EqualKeysAreTheSame, KeysHaveEquality};
+ghost use Rattle.star_laws.specs.Orders.{CoreHasNoKeys, SortingKeepsTheItems};
 ghost use Rattle.star_laws.specs.Ranges.{RangesHaveTheirItems, RangesStepToTheirStop, SameRangesHaveTheSameItems};
 ghost use Rattle.star_laws.specs.BoundArguments.{BoundAsGiven};
 
@@ -114,4 +115,16 @@ pub fn extended_has_them()
 /// without it. (`docs/LANGUAGE.md`, "Extended".)
 pub fn core_calls_its_own()
     ensures { CoreCallsItsOwn }
+{}
+
+/// Items that are sorted by their keys, in the extended language, are the items, each beside its key and as often as
+/// before. (`docs/LANGUAGE.md`, "Extended": "Orders".)
+pub fn sorting_keeps_the_items()
+    ensures { SortingKeepsTheItems }
+{}
+
+/// In the core language a call with `key` is a plain call: no function of `key` is called. (`docs/LANGUAGE.md`,
+/// "Extended": "Orders".)
+pub fn core_has_no_keys()
+    ensures { CoreHasNoKeys }
 {}

@@ -1,6 +1,6 @@
 -- Calls, by places and by names: the function that is called fits, so its body does the same in its own chain of
 -- frames.
-use Rattle.std.proofs.Common.{◌≡◌, ℕ, ◌+◌, List, [], ◌∷◌, ◌++◌, length, not, nat_eq, Option, Some, None, refl, ap, subst, Bool, true, false, if◌then◌else◌}
+use Rattle.std.proofs.Common.{◌≡◌, ℕ, ◌+◌, List, [], ◌∷◌, ◌++◌, length, not, nat_eq, Option, Some, None, refl, ap, subst, Bool, true, false, if◌then◌else◌, map}
 use Rattle.std.specs.List.{Contains}
 use Rattle.std.specs.Option.{option_and_then}
 use Rattle.star_store.specs.declared.values.Value.{Value}
@@ -28,9 +28,15 @@ use Rattle.star_meaning.specs.declared.given.KeywordArgument.{KeywordArgument}
 use Rattle.star_meaning.specs.Arguments.{EvaluatedArgument, Plain, Named as NamedArgument, Star, StarStar, given, is_given}
 use Rattle.star_meaning.specs.Semantics.{Semantics}
 use Rattle.star_meaning.specs.Binding.{BindingState, BoundArgument, One, Step, also, bound_to, else_default, first_of_row, build_argument, build_arguments, rest_of_row, argument_of, shared, shares, step, extra_keywords, value_named}
-use Rattle.star_meaning.specs.Calls.{AFunction, ABuiltIn, AMethod, Callee, activate, answer_of, deactivate, call_node, called, callee, callee_of, function_callee, is_active, pass, pass_form, run, run_body}
+use Rattle.star_meaning.specs.Calls.{AFunction, ABuiltIn, AMethod, Callee, activate, answer_of, deactivate, call_node, best_by_key, called, called_built_in, called_by_key, called_plainly, callee, key_of, keyed, only, sorted_by_key, takes_key, with_keys, callee_of, function_callee, is_active, pass, pass_form, run, run_body}
 use Rattle.star_meaning.specs.Local.{Trees}
 use Rattle.star_meaning.specs.Places.{AllFit, FitsChain, FitsFunction, Stands, Tables, bind_spot, by_places}
+use Rattle.std.specs.Ordering.{is_gt, is_lt}
+use Rattle.std.specs.declared.cmp.Ordering.{Ordering}
+use Rattle.star_store.specs.declared.names.BuiltIn.{BuiltIn}
+use Rattle.star_store.specs.declared.names.BuiltIn.TheVariants as built_in
+use Rattle.star_meaning.specs.Orders.{by_itself}
+use Rattle.star_meaning.proofs.KeepsOrders.{respects-asked_for_best, respects-asked_to_sort, respects-best_by, respects-sort_by}
 use Rattle.star_meaning.proofs.Agree.{Agree, Every, Good, agree_all_of, agree_bind, agree_block, agree_each, agree_fail, agree_frame, agree_give, agree_kept, agree_quiet, agree_such, agree_then, carries_follows, chain_carries, fit_follows, good_on}
 use Rattle.star_meaning.proofs.AgreeParts.{AllAgree, Known, Scene, body_uses}
 use Rattle.star_meaning.proofs.UsesOf.{Sub, argument_level, by, every, first, inner_level, left, of_argument, of_inner, right}
@@ -194,6 +200,53 @@ call_function : (tables : Tables) (trees : Trees) (w : Setting) (m n : Semantics
 call_function tables trees w m n p ss chain h levels f d ps us bs stands there known =
     agree_then trees w f.file bs (Some f.frame) _ _ _ _ (agree_kept trees w f.file bs (Some f.frame) _ (keeps-given w p.line ps)) (λ g. call_found tables trees w m n p ss chain h f d g us bs stands there known (bound_to d.parameters f.defaults g) refl)
 
+pub nothing_asked : (xs : List Value) → Every (λ x. Unit {0}) xs
+nothing_asked [] = tt
+nothing_asked (x ∷ xs) = (tt, nothing_asked xs)
+
+-- a plain call with these arguments, of what a value is
+plain_then : (tables : Tables) (trees : Trees) (w : Setting) (m n : Semantics) (p : Site) (ss : List Statement) (chain : List ℕ) → Scene tables trees w m n p ss chain → (levels : ℕ) (g : Arguments) (s : State) (fit : AllFit trees w s) (fits : FitsChain w s p.file chain (Some p.frame)) (v : Value) (o : Outcome Callee) → callee w p.line v s ≡ o → quiet.Followed s o
+    → (and_then o (λ c. called_plainly w levels m p c g) ≡ and_then o (λ c. called_plainly w levels n p c g)) × Good trees w s (and_then o (λ c. called_plainly w levels n p c g))
+plain_then tables trees w m n p ss chain h levels g s fit fits v (Failed e lines) is k = (refl, tt)
+plain_then tables trees w m n p ss chain h levels g s fit fits v (Done (AFunction f d) t) is k =
+    let c = callable w p.line s t v (AFunction f d) is in
+    let fitting : FitsFunction trees w s f = fit (c.0).0 f (c.0).1 in
+    let now = chain_carries w s t (carries_follows s t k) f.file fitting.chain (Some f.frame) fitting.fits in
+    let r = (call_found tables trees w m n p ss chain h f d g fitting.statements fitting.chain fitting.stands fitting.is_there c.1 (bound_to d.parameters f.defaults g) refl).holds t (fit_follows trees w s t k fit) now in
+    (r.0, good_on trees w s t (carries_follows s t k) _ r.1)
+plain_then tables trees w m n p ss chain h levels g s fit fits v (Done (ABuiltIn b) t) is k =
+    let r = (agree_kept trees w p.file chain (Some p.frame) _ (keeps-call_built_in w levels p.line b g)).holds t (fit_follows trees w s t k fit) (chain_carries w s t (carries_follows s t k) p.file chain (Some p.frame) fits) in
+    (r.0, good_on trees w s t (carries_follows s t k) _ r.1)
+plain_then tables trees w m n p ss chain h levels g s fit fits v (Done (AMethod b x) t) is k =
+    let r = (agree_kept trees w p.file chain (Some p.frame) _ (kept_by w (respects-call_method w levels p.line b x g))).holds t (fit_follows trees w s t k fit) (chain_carries w s t (carries_follows s t k) p.file chain (Some p.frame) fits) in
+    (r.0, good_on trees w s t (carries_follows s t k) _ r.1)
+
+agree-key_of : (tables : Tables) (trees : Trees) (w : Setting) (m n : Semantics) (p : Site) (ss : List Statement) (chain : List ℕ) → Scene tables trees w m n p ss chain → (levels : ℕ) (f x : Value) → Agree trees w p.file chain (Some p.frame) (key_of w levels m p f x) (key_of w levels n p f x)
+agree-key_of tables trees w m n p ss chain h levels f x = record { holds = λ s fit fits. plain_then tables trees w m n p ss chain h levels (only x) s fit fits f (callee w p.line f s) refl (((kept_by w (respects-callee w p.line f)).follows refl).holds s) }
+
+agree-keyed : (tables : Tables) (trees : Trees) (w : Setting) (m n : Semantics) (p : Site) (ss : List Statement) (chain : List ℕ) → Scene tables trees w m n p ss chain → (levels : ℕ) (f x : Value) → Agree trees w p.file chain (Some p.frame) (keyed w levels m p f x) (keyed w levels n p f x)
+agree-keyed tables trees w m n p ss chain h levels f x = agree_then trees w p.file chain (Some p.frame) _ _ _ _ (agree-key_of tables trees w m n p ss chain h levels f x) (λ k. agree_give trees w p.file chain (Some p.frame) (k, x))
+
+agree-with_keys : (tables : Tables) (trees : Trees) (w : Setting) (m n : Semantics) (p : Site) (ss : List Statement) (chain : List ℕ) → Scene tables trees w m n p ss chain → (levels : ℕ) (o : Option Value) (xs : List Value) → Agree trees w p.file chain (Some p.frame) (with_keys w levels m p o xs) (with_keys w levels n p o xs)
+agree-with_keys tables trees w m n p ss chain h levels None xs = agree_give trees w p.file chain (Some p.frame) (map by_itself xs)
+agree-with_keys tables trees w m n p ss chain h levels (Some f) xs = agree_each trees w p.file chain (Some p.frame) (λ x. Unit {0}) _ _ (λ x _. agree-keyed tables trees w m n p ss chain h levels f x) xs (nothing_asked xs)
+
+agree-sorted_by_key : (tables : Tables) (trees : Trees) (w : Setting) (m n : Semantics) (p : Site) (ss : List Statement) (chain : List ℕ) → Scene tables trees w m n p ss chain → (levels : ℕ) (g : Arguments) → Agree trees w p.file chain (Some p.frame) (sorted_by_key w levels m p g) (sorted_by_key w levels n p g)
+agree-sorted_by_key tables trees w m n p ss chain h levels g = agree_then trees w p.file chain (Some p.frame) _ _ _ _ (agree_kept trees w p.file chain (Some p.frame) _ (kept_by w (respects-asked_to_sort w p.line g))) (λ a. agree_then trees w p.file chain (Some p.frame) _ _ _ _ (agree-with_keys tables trees w m n p ss chain h levels a.1 a.0) (λ ps. agree_kept trees w p.file chain (Some p.frame) _ (kept_by w (respects-sort_by w levels p.line a.2 ps))))
+
+agree-best_by_key : (tables : Tables) (trees : Trees) (w : Setting) (m n : Semantics) (p : Site) (ss : List Statement) (chain : List ℕ) → Scene tables trees w m n p ss chain → (levels : ℕ) (better : Ordering → Bool) (g : Arguments) → Agree trees w p.file chain (Some p.frame) (best_by_key w levels m p better g) (best_by_key w levels n p better g)
+agree-best_by_key tables trees w m n p ss chain h levels better g = agree_then trees w p.file chain (Some p.frame) _ _ _ _ (agree_kept trees w p.file chain (Some p.frame) _ (kept_by w (respects-asked_for_best w p.line g))) (λ a. agree_then trees w p.file chain (Some p.frame) _ _ _ _ (agree-with_keys tables trees w m n p ss chain h levels a.1 a.0) (λ ps. agree_kept trees w p.file chain (Some p.frame) _ (kept_by w (respects-best_by w levels p.line better ps))))
+
+agree-called_by_key : (tables : Tables) (trees : Trees) (w : Setting) (m n : Semantics) (p : Site) (ss : List Statement) (chain : List ℕ) → Scene tables trees w m n p ss chain → (levels : ℕ) (b : BuiltIn) (g : Arguments) → Agree trees w p.file chain (Some p.frame) (called_by_key w levels m p b g) (called_by_key w levels n p b g)
+agree-called_by_key tables trees w m n p ss chain h levels built_in.Sorted g = agree-sorted_by_key tables trees w m n p ss chain h levels g
+agree-called_by_key tables trees w m n p ss chain h levels built_in.Max g = agree-best_by_key tables trees w m n p ss chain h levels is_gt g
+agree-called_by_key tables trees w m n p ss chain h levels built_in.Min g = agree-best_by_key tables trees w m n p ss chain h levels is_lt g
+agree-called_by_key tables trees w m n p ss chain h levels b g = agree_kept trees w p.file chain (Some p.frame) _ (keeps-call_built_in w levels p.line b g)
+
+agree-called_built_in : (tables : Tables) (trees : Trees) (w : Setting) (m n : Semantics) (p : Site) (ss : List Statement) (chain : List ℕ) → Scene tables trees w m n p ss chain → (levels : ℕ) (b : BuiltIn) (g : Arguments) (c : Bool) → Agree trees w p.file chain (Some p.frame) (called_built_in w levels m p b g c) (called_built_in w levels n p b g c)
+agree-called_built_in tables trees w m n p ss chain h levels b g true = agree-called_by_key tables trees w m n p ss chain h levels b g
+agree-called_built_in tables trees w m n p ss chain h levels b g false = agree_kept trees w p.file chain (Some p.frame) _ (keeps-call_built_in w levels p.line b g)
+
 abbrev pub after : Setting → ℕ → Semantics → Site → List EvaluatedArgument → Callee → Action Value
 after w levels m p ps c = given w p.line ps >>= λ g. called w levels m p c g
 
@@ -207,7 +260,7 @@ called_then tables trees w m n p ss chain h levels ps s fit fits v (Done (AFunct
     let r = (call_function tables trees w m n p ss chain h levels f d ps fitting.statements fitting.chain fitting.stands fitting.is_there c.1).holds t (fit_follows trees w s t k fit) now in
     (r.0, good_on trees w s t (carries_follows s t k) _ r.1)
 called_then tables trees w m n p ss chain h levels ps s fit fits v (Done (ABuiltIn b) t) is k =
-    let r = (agree_then trees w p.file chain (Some p.frame) _ _ _ _ (agree_kept trees w p.file chain (Some p.frame) _ (keeps-given w p.line ps)) (λ g. agree_kept trees w p.file chain (Some p.frame) _ (keeps-call_built_in w levels p.line b g))).holds t (fit_follows trees w s t k fit) (chain_carries w s t (carries_follows s t k) p.file chain (Some p.frame) fits) in
+    let r = (agree_then trees w p.file chain (Some p.frame) _ _ _ _ (agree_kept trees w p.file chain (Some p.frame) _ (keeps-given w p.line ps)) (λ g. agree-called_built_in tables trees w m n p ss chain h levels b g (takes_key w.dialect g))).holds t (fit_follows trees w s t k fit) (chain_carries w s t (carries_follows s t k) p.file chain (Some p.frame) fits) in
     (r.0, good_on trees w s t (carries_follows s t k) _ r.1)
 called_then tables trees w m n p ss chain h levels ps s fit fits v (Done (AMethod b x) t) is k =
     let r = (agree_then trees w p.file chain (Some p.frame) _ _ _ _ (agree_kept trees w p.file chain (Some p.frame) _ (keeps-given w p.line ps)) (λ g. agree_kept trees w p.file chain (Some p.frame) _ (kept_by w (respects-call_method w levels p.line b x g)))).holds t (fit_follows trees w s t k fit) (chain_carries w s t (carries_follows s t k) p.file chain (Some p.frame) fits) in

@@ -8,12 +8,16 @@ use Rattle.star_store.specs.declared.names.BuiltIn.TheVariants as built_in
 use Rattle.star_meaning.specs.Program.{Setting}
 use Rattle.star_meaning.specs.Values.{Content, Truth, Number, Held}
 use Rattle.star_meaning.specs.declared.given.Arguments.{Arguments}
-use Rattle.std.proofs.Common.{ℕ, List, [], ◌∷◌, Option, Some, None, Bool, ℤ}
-use Rattle.star_meaning.specs.BuiltIns.{absolute, call_abs, is_decided, some_item, call_all, call_any, truth_of, call_bool, call_dict, want_start, numbered, call_enumerate, want_separator, print_line, call_print, call_fail, to_int, call_int, call_len, taken_from, call_list, call_tuple, call_reversed, best_of, best_in, candidates, call_best, new_range, range_of, call_range, call_repr, call_str, call_type, want_reverse, sort, call_sorted, row_at, call_zip, call_built_in}
+use Rattle.std.proofs.Common.{ℕ, List, [], ◌∷◌, Option, Some, None, Bool, ℤ, map}
+use Rattle.star_meaning.specs.BuiltIns.{absolute, call_abs, is_decided, some_item, call_all, call_any, truth_of, call_bool, call_dict, want_start, numbered, call_enumerate, want_separator, print_line, call_print, call_fail, to_int, call_int, call_len, taken_from, call_list, call_tuple, call_reversed, best_of, best_in, candidates, call_best, new_range, range_of, call_range, call_repr, call_str, call_type, sort, sort_items, call_sorted, row_at, call_zip, call_built_in}
+use Rattle.star_meaning.specs.Orders.{by_itself}
+use Rattle.star_dialect.specs.declared.Dialect.{Dialect}
+use Rattle.star_dialect.specs.declared.Dialect.TheVariants as dialect
+use Rattle.star_meaning.proofs.KeepsOrders.{respects-sort_by, respects-want_reverse}
 use Rattle.star_meaning.proofs.Invariants.{Invariant, Respects, respects}
 use Rattle.star_meaning.proofs.Keeps.{keeps, kept_by, Keeps}
 use Rattle.star_meaning.proofs.KeepsAttributes.{respects-call_chr, respects-call_dir, respects-call_getattr, respects-call_hasattr, respects-call_ord, respects-call_struct}
-use Rattle.star_meaning.proofs.KeepsValues.{respects-with_content, respects-want_int, respects-want_bool, respects-want_text, respects-new_int, respects-new_text, respects-new_tuple, respects-new_list, respects-count_of, respects-take_item, respects-take_items, respects-take_all, respects-is_true, respects-compare, respects-repr, respects-str}
+use Rattle.star_meaning.proofs.KeepsValues.{respects-with_content, respects-want_int, respects-want_text, respects-new_int, respects-new_text, respects-new_tuple, respects-new_list, respects-count_of, respects-take_item, respects-take_items, respects-take_all, respects-is_true, respects-compare, respects-repr, respects-str}
 use Rattle.star_meaning.proofs.KeepsArguments.{respects-positional, respects-with_name, respects-only_one, respects-none_or_one, respects-one_or_two}
 use Rattle.star_meaning.proofs.KeepsPairs.{respects-pairs_of, respects-pairs_count, keeps-dict_of}
 
@@ -128,15 +132,15 @@ respects-call_str w levels line g = search (respects, respects-new_text, respect
 pub respects-call_type : (w : Setting) {inv : Invariant w} (line : ℕ) (g : Arguments) → Respects inv (call_type w line g)
 respects-call_type w line g = search (respects, respects-with_content, respects-new_text, respects-positional, respects-only_one) depth 14
 
-pub respects-want_reverse : (w : Setting) {inv : Invariant w} (line : ℕ) (a2 : Option Value) → Respects inv (want_reverse w line a2)
-respects-want_reverse w line None = search respects depth 14
-respects-want_reverse w line (Some v) = search (respects, respects-want_bool) depth 14
-
 pub respects-sort : (w : Setting) {inv : Invariant w} (line : ℕ) (backwards : Bool) (xs : List Value) → Respects inv (sort w line backwards xs)
 respects-sort w line backwards xs = search (respects, respects-new_list) depth 14
 
-pub respects-call_sorted : (w : Setting) {inv : Invariant w} (line : ℕ) (g : Arguments) → Respects inv (call_sorted w line g)
-respects-call_sorted w line g = search (respects, respects-count_of, respects-take_items, respects-with_name, respects-only_one, respects-want_reverse, respects-sort) depth 14
+pub respects-sort_items : (w : Setting) {inv : Invariant w} (levels line : ℕ) (backwards : Bool) (xs : List Value) (a5 : Dialect) → Respects inv (sort_items w levels line backwards xs a5)
+respects-sort_items w levels line backwards xs dialect.Core = respects-sort w line backwards xs
+respects-sort_items w levels line backwards xs dialect.Extended = respects-sort_by w levels line backwards (map by_itself xs)
+
+pub respects-call_sorted : (w : Setting) {inv : Invariant w} (levels line : ℕ) (g : Arguments) → Respects inv (call_sorted w levels line g)
+respects-call_sorted w levels line g = search (respects, respects-count_of, respects-take_items, respects-with_name, respects-only_one, respects-want_reverse, respects-sort_items) depth 14
 
 pub respects-row_at : (w : Setting) {inv : Invariant w} (line : ℕ) (vs : List Value) (i : ℕ) → Respects inv (row_at w line vs i)
 respects-row_at w line vs i = search (respects, respects-new_tuple, respects-take_item) depth 14

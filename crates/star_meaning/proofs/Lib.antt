@@ -12,6 +12,7 @@ pub mod Keeps
 pub mod KeepsArguments
 pub mod KeepsAttributes
 pub mod KeepsBinding
+pub mod KeepsOrders
 pub mod KeepsBuiltIns
 pub mod KeepsCallee
 pub mod KeepsCalls

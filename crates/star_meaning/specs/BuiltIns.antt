@@ -1,9 +1,8 @@
 -- The built-in functions: first the number and the names of the arguments, then their types, then the work, which pays
 -- as it goes.
-use Rattle.std.specs.Prelude.{ℕ, ◌+◌, ◌-◌, ◌*◌, ◌^◌, nat_eq, nat_lt, min, Bool, true, false, not, ◌&&◌, ◌||◌, List, [], ◌∷◌, ◌++◌, length, map, reverse, Option, Some, None, ℤ, pos, ◌+ℤ◌, neg_ℤ, unsigned_abs, if◌then◌else◌, codes}
+use Rattle.std.specs.Prelude.{ℕ, ◌+◌, ◌-◌, ◌*◌, ◌^◌, nat_eq, nat_lt, min, Bool, true, false, not, ◌&&◌, List, [], ◌∷◌, ◌++◌, length, map, reverse, Option, Some, None, ℤ, pos, ◌+ℤ◌, neg_ℤ, unsigned_abs, if◌then◌else◌, codes}
 use Rattle.std.specs.List.{list_all}
-use Rattle.std.specs.Ordering.{int_eq, int_cmp, nat_cmp, is_lt, is_gt}
-use Rattle.std.specs.Cmp.Lexicographic.{slice_cmp}
+use Rattle.std.specs.Ordering.{int_eq, is_lt, is_gt}
 use Rattle.std.specs.declared.cmp.Ordering.{Ordering}
 use Rattle.star_store.specs.declared.values.Value.{Value}
 use Rattle.star_store.specs.declared.values.Value.TheVariants as value
@@ -12,15 +11,18 @@ use Rattle.star_store.specs.declared.range.Range.{Range}
 use Rattle.star_store.specs.declared.names.BuiltIn.{BuiltIn}
 use Rattle.star_store.specs.declared.names.BuiltIn.TheVariants as built_in
 use Rattle.star_store.specs.Range.{range_length}
+use Rattle.star_dialect.specs.declared.Dialect.{Dialect}
+use Rattle.star_dialect.specs.declared.Dialect.TheVariants as dialect
 use Rattle.star_meaning.specs.declared.fault.FaultCode.TheVariants as code
 use Rattle.star_meaning.specs.Run.{Action, ◌>>=◌, give, fail, pay, check, found, each, collect, until, seeing, build, add_line}
 use Rattle.star_meaning.specs.Program.{Setting}
-use Rattle.star_meaning.specs.Values.{Content, Truth, Number, Held, content, with_content, type_name, want_int, want_bool, want_text, new_int, new_text, new_tuple, new_list, count_in, count_of, take_item, take_items, take_all, is_true, compare, repr, str}
+use Rattle.star_meaning.specs.Values.{Content, Truth, Number, Held, content, with_content, type_name, want_int, want_text, new_int, new_text, new_tuple, new_list, count_in, count_of, take_item, take_items, take_all, is_true, compare, repr, str}
 use Rattle.star_meaning.specs.declared.given.Arguments.{Arguments}
 use Rattle.star_meaning.specs.Arguments.{positional, with_name, only_one, none_or_one, one_or_two}
 use Rattle.star_meaning.specs.Attributes.{call_dir, call_getattr, call_hasattr}
 use Rattle.star_meaning.specs.Characters.{call_chr, call_ord}
 use Rattle.star_meaning.specs.Pairs.{pairs_count, pairs_of, dict_of}
+use Rattle.star_meaning.specs.Orders.{by_itself, can_sort, is_before, sort_by, want_reverse}
 use Rattle.star_meaning.specs.Sorting.{in_order}
 use Rattle.star_meaning.specs.Structs.{call_struct}
 
@@ -163,7 +165,7 @@ call_tuple w line g = positional line g >>= none_or_one line >>= taken_from w li
 abbrev pub call_reversed : Setting → ℕ → Arguments → Action Value
 call_reversed w line g = positional line g >>= only_one line >>= take_all w line >>= λ xs. new_list line (reverse xs)
 
--- max and min: each item is compared with the best so far, and the first of equals is kept
+-- max and min without `key`: each item is compared with the best so far, and the first of equals is kept
 abbrev pub best_of : Setting → ℕ → ℕ → (Ordering → Bool) → Value → List Value → Action Value
 best_of w levels line better best [] = give best
 best_of w levels line better best (x ∷ xs) =
@@ -213,28 +215,7 @@ call_str w levels line g = positional line g >>= only_one line >>= str w levels 
 abbrev pub call_type : Setting → ℕ → Arguments → Action Value
 call_type w line g = positional line g >>= only_one line >>= λ v. with_content w v (λ c. new_text line (type_name c))
 
--- sorted(it, reverse=False): all ints or all strings, else `type`
-abbrev pub want_reverse : Setting → ℕ → Option Value → Action Bool
-want_reverse w line None = give false
-want_reverse w line (Some v) = want_bool w line v
-
-abbrev pub is_int : Content → Bool
-is_int (Number z) = true
-is_int _ = false
-
-abbrev pub is_text : Content → Bool
-is_text (Held (cell.Text t)) = true
-is_text _ = false
-
-abbrev pub can_sort : List Content → Bool
-can_sort cs = list_all is_int cs || list_all is_text cs
-
--- whether an int, or a string by its bytes, comes before another
-abbrev pub is_before : Content → Content → Bool
-is_before (Number x) (Number y) = is_lt (int_cmp x y)
-is_before (Held (cell.Text t)) (Held (cell.Text u)) = is_lt (slice_cmp nat_cmp t u)
-is_before _ _ = false
-
+-- sorted(it, reverse=False): in the core all ints or all strings, else `type`
 abbrev pub turned : Bool → List Value → List Value
 turned true xs = reverse xs
 turned false xs = xs
@@ -244,14 +225,19 @@ sort w line backwards xs =
     seeing (λ s. check code.BadType line (can_sort (map (content w s) xs))
     >>= λ _. new_list line (turned backwards (in_order (λ x y. is_before (content w s x) (content w s y)) xs)))
 
-abbrev pub call_sorted : Setting → ℕ → Arguments → Action Value
-call_sorted w line g = do
+-- .. in the extended language whatever has an order
+abbrev pub sort_items : Setting → ℕ → ℕ → Bool → List Value → Dialect → Action Value
+sort_items w levels line backwards xs dialect.Core = sort w line backwards xs
+sort_items w levels line backwards xs dialect.Extended = sort_by w levels line backwards (map by_itself xs)
+
+abbrev pub call_sorted : Setting → ℕ → ℕ → Arguments → Action Value
+call_sorted w levels line g = do
   a ← with_name line (codes "reverse") g
   it ← only_one line a.0
   n ← count_of w line it
   backwards ← want_reverse w line a.1
   xs ← take_items w line it n
-  sort w line backwards xs
+  sort_items w levels line backwards xs w.dialect
 
 -- zip(*it): as many rows as the shortest has items; each row takes one item of each
 abbrev pub least : List ℕ → ℕ
@@ -287,7 +273,7 @@ call_built_in w levels line built_in.Print g = call_print w levels line g
 call_built_in w levels line built_in.Range g = call_range w line g
 call_built_in w levels line built_in.Repr g = call_repr w levels line g
 call_built_in w levels line built_in.Reversed g = call_reversed w line g
-call_built_in w levels line built_in.Sorted g = call_sorted w line g
+call_built_in w levels line built_in.Sorted g = call_sorted w levels line g
 call_built_in w levels line built_in.Str g = call_str w levels line g
 call_built_in w levels line built_in.Tuple g = call_tuple w line g
 call_built_in w levels line built_in.Type g = call_type w line g

@@ -1,16 +1,21 @@
 -- Calls: the callee, and the run of a function.
-use Rattle.std.specs.Prelude.{ℕ, ◌+◌, nat_eq, Bool, not, ◌&&◌, List, [], ◌∷◌, Some}
+use Rattle.std.specs.Prelude.{ℕ, ◌+◌, nat_eq, Bool, true, false, not, ◌&&◌, List, [], ◌∷◌, map, Option, Some, None, codes}
 use Rattle.std.specs.List.{list_any}
+use Rattle.std.specs.Ordering.{is_lt, is_gt}
+use Rattle.std.specs.declared.cmp.Ordering.{Ordering}
 use Rattle.star_store.specs.declared.values.Value.{Value}
 use Rattle.star_store.specs.declared.values.Value.TheVariants as value
 use Rattle.star_store.specs.declared.values.Cell.TheVariants as cell
 use Rattle.star_store.specs.declared.values.Function.{Function}
 use Rattle.star_store.specs.declared.names.BuiltIn.{BuiltIn}
+use Rattle.star_store.specs.declared.names.BuiltIn.TheVariants as built_in
 use Rattle.star_store.specs.declared.names.Method.{Method}
 use Rattle.star_tree.specs.declared.tree.Argument.{Argument}
 use Rattle.star_tree.specs.declared.tree.Expression.{Expression}
 use Rattle.star_tree.specs.declared.tree.Name.{Name}
 use Rattle.star_tree.specs.declared.tree.Argument.TheOpen as tree
+use Rattle.star_dialect.specs.declared.Dialect.{Dialect}
+use Rattle.star_dialect.specs.declared.Dialect.TheVariants as dialect
 use Rattle.star_meaning.specs.declared.fault.FaultCode.TheVariants as code
 use Rattle.star_meaning.specs.declared.site.Site.{Site}
 use Rattle.star_meaning.specs.declared.site.Flow.{Flow}
@@ -24,6 +29,7 @@ use Rattle.star_meaning.specs.declared.given.Arguments.{Arguments}
 use Rattle.star_meaning.specs.Arguments.{EvaluatedArgument, Plain, Named, Star, StarStar, given}
 use Rattle.star_meaning.specs.BuiltIns.{call_built_in}
 use Rattle.star_meaning.specs.Methods.{call_method}
+use Rattle.star_meaning.specs.Orders.{asked_for_best, asked_to_sort, best_by, by_itself, is_named, sort_by}
 use Rattle.star_meaning.specs.Binding.{BoundArgument, bound_to, build_arguments}
 use Rattle.star_meaning.specs.Semantics.{Semantics, block}
 
@@ -64,11 +70,64 @@ callee_of w line _ = fail code.BadType line
 unfoldable pub callee : Setting → ℕ → Value → Action Callee
 callee w line v = with_content w v (callee_of w line)
 
--- a call with these arguments: a function's are bound, or `args`; then it runs, at a level of its own
+-- a plain call with these arguments: a function's are bound, or `args`; then it runs, at a level of its own
+abbrev pub called_plainly : Setting → ℕ → Semantics → Site → Callee → Arguments → Action Value
+called_plainly w levels m p (AFunction f d) g =
+    found code.Args p.line (bound_to d.parameters f.defaults g) >>= m.call p f d
+called_plainly w levels m p (ABuiltIn b) g = call_built_in w levels p.line b g
+called_plainly w levels m p (AMethod b x) g = call_method w levels p.line b x g
+
+-- the arguments of a call with one value
+abbrev pub only : Value → Arguments
+only x = record { positional = x ∷ []; named = [] }
+
+-- the key of an item: the answer of a function that is called with it, by all rules of calls
+abbrev pub key_of : Setting → ℕ → Semantics → Site → Value → Value → Action Value
+key_of w levels m p f x = callee w p.line f >>= λ c. called_plainly w levels m p c (only x)
+
+abbrev pub keyed : Setting → ℕ → Semantics → Site → Value → Value → Action (Value × Value)
+keyed w levels m p f x = key_of w levels m p f x >>= λ k. give (k, x)
+
+-- items beside their keys, which are there before any comparison: without a function each is its own key
+abbrev pub with_keys : Setting → ℕ → Semantics → Site → Option Value → List Value → Action (List (Value × Value))
+with_keys w levels m p None xs = give (map by_itself xs)
+with_keys w levels m p (Some f) xs = each (keyed w levels m p f) xs
+
+-- sorted(it, key=None, reverse=False)
+abbrev pub sorted_by_key : Setting → ℕ → Semantics → Site → Arguments → Action Value
+sorted_by_key w levels m p g = do
+  a ← asked_to_sort w p.line g
+  ps ← with_keys w levels m p a.1 a.0
+  sort_by w levels p.line a.2 ps
+
+-- max(x, .., key=None) and min(x, .., key=None)
+abbrev pub best_by_key : Setting → ℕ → Semantics → Site → (Ordering → Bool) → Arguments → Action Value
+best_by_key w levels m p better g = do
+  a ← asked_for_best w p.line g
+  ps ← with_keys w levels m p a.1 a.0
+  best_by w levels p.line better ps
+
+-- a call of a built-in function with `key`: `sorted`, `max` and `min` take it
+abbrev pub called_by_key : Setting → ℕ → Semantics → Site → BuiltIn → Arguments → Action Value
+called_by_key w levels m p built_in.Sorted g = sorted_by_key w levels m p g
+called_by_key w levels m p built_in.Max g = best_by_key w levels m p is_gt g
+called_by_key w levels m p built_in.Min g = best_by_key w levels m p is_lt g
+called_by_key w levels m p b g = call_built_in w levels p.line b g
+
+-- whether there may be a function of `key`: in the extended language, if the name is given
+abbrev pub takes_key : Dialect → Arguments → Bool
+takes_key dialect.Core g = false
+takes_key dialect.Extended g = is_named (codes "key") g.named
+
+-- a call with these arguments
+abbrev pub called_built_in : Setting → ℕ → Semantics → Site → BuiltIn → Arguments → Bool → Action Value
+called_built_in w levels m p b g true = called_by_key w levels m p b g
+called_built_in w levels m p b g false = call_built_in w levels p.line b g
+
 abbrev pub called : Setting → ℕ → Semantics → Site → Callee → Arguments → Action Value
-called w levels m p (AFunction f d) g = found code.Args p.line (bound_to d.parameters f.defaults g) >>= m.call p f d
-called w levels m p (ABuiltIn b) g = call_built_in w levels p.line b g
-called w levels m p (AMethod b x) g = call_method w levels p.line b x g
+called w levels m p (AFunction f d) g = called_plainly w levels m p (AFunction f d) g
+called w levels m p (ABuiltIn b) g = called_built_in w levels m p b g (takes_key w.dialect g)
+called w levels m p (AMethod b x) g = called_plainly w levels m p (AMethod b x) g
 
 -- a call: the callee, the arguments in source order, then the checks in order, then the work
 abbrev pub call_node : Setting → ℕ → Semantics → Site → Expression → List Argument → Action Value

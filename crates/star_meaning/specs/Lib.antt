@@ -19,6 +19,8 @@ pub mod Binding
 pub mod Calls
 pub mod Pairs
 pub mod Sorting
+pub mod Merging
+pub mod Orders
 pub mod Attributes
 pub mod Structs
 pub mod Characters

@@ -1,14 +1,16 @@
 -- The methods of lists: the number and types of the arguments, then the write guard, then the work.
-use Rattle.std.specs.Prelude.{ℕ, ◌+◌, List, [], ◌∷◌, length, Option, Some, None, ℤ, pos, negsuc, unsigned_abs, if◌then◌else◌}
+use Rattle.std.specs.Prelude.{ℕ, ◌+◌, List, [], ◌∷◌, length, take, drop, Option, Some, None, ℤ, pos, negsuc, unsigned_abs, if◌then◌else◌}
 use Rattle.star_store.specs.declared.values.Value.{Value}
 use Rattle.star_store.specs.declared.values.Value.TheVariants as value
 use Rattle.star_store.specs.declared.values.Cell.TheVariants as cell
 use Rattle.star_store.specs.declared.arena.write.Change.TheVariants as change_to
+use Rattle.star_dialect.specs.declared.Dialect.{Dialect}
+use Rattle.star_dialect.specs.declared.Dialect.TheVariants as dialect
 use Rattle.star_meaning.specs.declared.fault.FaultCode.TheVariants as code
-use Rattle.star_meaning.specs.Run.{Action, ◌>>=◌, give, pay, found, all_of}
+use Rattle.star_meaning.specs.Run.{Action, ◌>>=◌, give, fail, pay, found, all_of}
 use Rattle.star_meaning.specs.Program.{Setting}
 use Rattle.star_meaning.specs.Values.{Content, Held, with_content, want_int, count_of, take_items, equal, guard, change, new_int}
-use Rattle.star_meaning.specs.Subscript.{place_from, bound_of}
+use Rattle.star_meaning.specs.Subscript.{place_from, bound_of, want_part}
 use Rattle.star_meaning.specs.declared.given.Arguments.{Arguments}
 use Rattle.star_meaning.specs.Arguments.{positional, only_one, none_or_one, two, no_value}
 
@@ -65,12 +67,39 @@ equal_place w levels line x i (y ∷ ys) =
 abbrev pub place_with : Setting → ℕ → ℕ → Value → Value → Action ℕ
 place_with w levels line l x = with_items w l (equal_place w levels line x 0) >>= found code.BadValue line
 
--- index(x)
-abbrev pub call_index : Setting → ℕ → ℕ → Value → Arguments → Action Value
-call_index w levels line l g = do
-  x ← positional line g >>= only_one line
-  i ← place_with w levels line l x
+-- the index of a value in a whole list, else `value`
+abbrev pub index_of : Setting → ℕ → ℕ → Value → Value → Action Value
+index_of w levels line l x = place_with w levels line l x >>= λ i. new_int line (pos i)
+
+-- a bound among so many items, held within 0 and their number
+abbrev pub item_bound : ℕ → ℕ → Option ℤ → ℕ
+item_bound n absent z = unsigned_abs (bound_of n (pos 0) (pos n) (pos absent) z)
+
+-- the place of the first item, from one place on and before another, that is equal to x
+abbrev pub equal_between : Setting → ℕ → ℕ → Value → ℕ → ℕ → List Value → Action (Option ℕ)
+equal_between w levels line x from to ys = equal_place w levels line x from (drop from (take to ys))
+
+-- the same within bounds, which are ints or None
+abbrev pub within_bounds : Setting → ℕ → ℕ → Value → Option ℤ → Option ℤ → List Value → Action (Option ℕ)
+within_bounds w levels line x a b ys =
+    equal_between w levels line x (item_bound (length ys) 0 a) (item_bound (length ys) (length ys) b) ys
+
+abbrev pub index_between : Setting → ℕ → ℕ → Value → Value → Option Value → Option Value → Action Value
+index_between w levels line l x a b = do
+  from ← want_part w line a
+  to ← want_part w line b
+  i ← with_items w l (within_bounds w levels line x from to) >>= found code.BadValue line
   new_int line (pos i)
+
+-- index(x), in the extended language index(x, [a, [b]])
+abbrev pub index_in : Setting → ℕ → ℕ → Value → Dialect → List Value → Action Value
+index_in w levels line l d (x ∷ []) = index_of w levels line l x
+index_in w levels line l dialect.Extended (x ∷ a ∷ []) = index_between w levels line l x (Some a) None
+index_in w levels line l dialect.Extended (x ∷ a ∷ b ∷ []) = index_between w levels line l x (Some a) (Some b)
+index_in w levels line l _ _ = fail code.Args line
+
+abbrev pub call_index : Setting → ℕ → ℕ → Value → Arguments → Action Value
+call_index w levels line l g = positional line g >>= index_in w levels line l w.dialect
 
 -- insert(i, x): the place is clamped between 0 and the length
 abbrev pub insert_place : ℕ → ℤ → ℕ

@@ -1,3 +1,4 @@
+pub mod Between
 pub mod Choices
 pub mod Cutting
 pub mod EqualPlaces

@@ -1,17 +1,18 @@
 //! The methods of lists.
 
-ghost use Rattle.std.specs.Prelude.{◌≡◌, length};
+ghost use Rattle.std.specs.Prelude.{◌≡◌, ◌≤◌, length, slice_get};
 ghost use Rattle.star_machine.specs.Refines.{Refines};
 ghost use Rattle.star_meaning.specs.ListMethods as spec;
 ghost use Rattle.star_meaning.specs.Run.{all_of};
 ghost use Rattle.star_meaning.specs.Values.{content};
 
+use star_dialect::Dialect;
 use star_machine::call::Call;
 use star_machine::content::{Content, Kind};
 use star_machine::fault::{EvalError, fault_at};
 use star_machine::machine::Machine;
 use star_machine::setting::Setting;
-use star_machine::slices::bound_of;
+use star_machine::slices::{bound_of, want_part};
 use star_machine::subscript::place_from;
 use star_meaning::fault::FaultCode;
 use star_store::arena::write::Change;
@@ -127,14 +128,106 @@ fn place_with(
     place.ok_or(fault_at(FaultCode::BadValue, call.line))
 }
 
-/// `index(x)`: the place of the first item that is equal to `x`. `BadValue` if there is none.
+/// The item of a list at a place; `None` outside, and for another value.
+fn item_at(machine: &Machine, setting: &Setting, list: Value, at: usize) -> Option<Value>
+    ensures { result ≡ slice_get (spec.items_of (content setting.now machine.now list)) at }
+{
+    match machine.content(setting, list) {
+        Content::Held(Cell::List(items)) => items.get(at),
+        _ => None,
+    }
+}
+
+/// The place of the first item, from one place on and before another, that is equal to a value.
+#[tactic(auto, using(crate::proofs::Between::rest_at, crate::proofs::Between::no_rest, crate::proofs::Between::past_end, crate::proofs::Between::same_items))]
+fn equal_between(
+    machine: &mut Machine,
+    list: Value,
+    value: Value,
+    from: usize,
+    to: usize,
+    call: &Call,
+) -> Result<Option<usize>, EvalError>
+    // It is long since it names each argument of the definition.
+    ensures { Refines (spec.with_items call.now.setting.now list (spec.equal_between call.now.setting.now
+        call.now.levels call.now.line value from to) machine.old) result machine.new }
+{
+    let mut at = from;
+    while at < to {
+        let Some(item) = item_at(machine, call.setting, list, at) else {
+            return Ok(None);
+        };
+        if machine.equal(call.setting, call.levels, call.line, item, value)? {
+            return Ok(Some(at));
+        }
+        at += 1;
+    }
+    Ok(None)
+}
+
+/// A bound in a list, held within 0 and its length; `absent` without one.
+fn item_bound(len: usize, absent: usize, place: Option<i64>) -> usize
+    requires { absent ≤ len }
+    ensures { result ≡ spec.item_bound len absent place }
+{
+    bound_of(len, 0, len as i128, absent as i128, place).unsigned_abs() as usize
+}
+
+/// The index of a value among the items from one bound on and before another. `BadType` for a bound that is neither an int
+/// nor None, `BadValue` if no item is equal.
+fn index_between(
+    machine: &mut Machine,
+    list: Value,
+    value: Value,
+    from: Option<Value>,
+    to: Option<Value>,
+    call: &Call,
+) -> Result<Value, EvalError>
+    // It is long since it names each argument of the definition.
+    ensures { Refines (spec.index_between call.now.setting.now call.now.levels call.now.line list value from to
+        machine.old) result machine.new }
+{
+    let from = want_part(machine, call.setting, call.line, from)?;
+    let to = want_part(machine, call.setting, call.line, to)?;
+    let len = item_count(machine, call.setting, list);
+    let from = item_bound(len, 0, from);
+    let to = item_bound(len, len, to);
+    let place = equal_between(machine, list, value, from, to, call)?;
+    let place = place.ok_or(fault_at(FaultCode::BadValue, call.line))?;
+    machine.new_count(call.line, place)
+}
+
+/// The index of a value in a whole list. `BadValue` if no item is equal.
+fn index_of(
+    machine: &mut Machine,
+    list: Value,
+    value: Value,
+    call: &Call,
+) -> Result<Value, EvalError>
+    ensures { Refines (spec.index_of call.now.setting.now call.now.levels call.now.line list value machine.old) result
+        machine.new }
+{
+    let at = place_with(machine, list, value, call)?;
+    machine.new_count(call.line, at)
+}
+
+/// `index(x, [a, [b]])`: the place of the first item that is equal to `x`, in the extended language within bounds.
+/// `BadValue` if there is none.
 pub fn call_index(machine: &mut Machine, list: Value, call: &Call) -> Result<Value, EvalError>
     ensures { Refines (spec.call_index call.now.setting.now call.now.levels call.now.line list call.now.given.now
         machine.old) result machine.new }
 {
-    let value = call.only_one(machine)?;
-    let at = place_with(machine, list, value, call)?;
-    machine.new_count(call.line, at)
+    let values = machine.positional(call.line, call.given)?;
+    match (call.setting.dialect(), values) {
+        (_, [value]) => index_of(machine, list, *value, call),
+        (Dialect::Extended, [value, from]) => {
+            index_between(machine, list, *value, Some(*from), None, call)
+        }
+        (Dialect::Extended, [value, from, to]) => {
+            index_between(machine, list, *value, Some(*from), Some(*to), call)
+        }
+        _ => Err(fault_at(FaultCode::Args, call.line)),
+    }
 }
 
 /// A place, counted from the end if it is below 0, and then clamped between 0 and a length.

@@ -1,5 +1,5 @@
 -- Operations on values ask for no outlines.
-use Rattle.std.proofs.Common.{◌≡◌, ℕ, List, [], Option, Some, refl, ap, ◌∙◌}
+use Rattle.std.proofs.Common.{◌≡◌, ℕ, List, [], Option, Some, refl, ap, ◌∙◌, Bool}
 use Rattle.star_store.specs.declared.values.Cell.TheVariants as cell
 use Rattle.star_tree.specs.declared.tree.BinaryOperator.TheVariants as binary
 use Rattle.star_meaning.specs.declared.given.KeywordArgument.{KeywordArgument}
@@ -17,7 +17,9 @@ use Rattle.star_meaning.specs.Arguments.{EvaluatedArgument}
 use Rattle.star_meaning.specs.Program.{Setting}
 use Rattle.star_needs.proofs.Outlines.{with_outlines}
 use Rattle.star_meaning.specs.Arguments.{given, name_key}
+use Rattle.std.specs.declared.cmp.Ordering.{Ordering}
 use Rattle.star_meaning.specs.BuiltIns.{call_built_in}
+use Rattle.star_meaning.specs.Orders.{asked_for_best, asked_to_sort, best_by, sort_by}
 use Rattle.star_meaning.specs.Expressions.{fresh_entries}
 use Rattle.star_meaning.specs.ListMethods.{extend}
 use Rattle.star_meaning.specs.Attributes.{attribute}
@@ -35,6 +37,22 @@ same-given os w line ps = refl
 pub same-call_built_in : (os : List (Option Outline)) (w : Setting) (levels line : ℕ) (b : BuiltIn) (g : Arguments) → call_built_in (with_outlines os w) levels line b g ≡ call_built_in w levels line b g
 unfolding call_built_in operate prefix comparison pairs_of put_pairs dict_of update_with index put_entry set_index slice count_of take_item iterate is_true equal compare check_key repr str guard change extend name_key
 same-call_built_in os w levels line b g = refl
+
+pub same-asked_to_sort : (os : List (Option Outline)) (w : Setting) (line : ℕ) (g : Arguments) → asked_to_sort (with_outlines os w) line g ≡ asked_to_sort w line g
+unfolding count_of take_item
+same-asked_to_sort os w line g = refl
+
+pub same-asked_for_best : (os : List (Option Outline)) (w : Setting) (line : ℕ) (g : Arguments) → asked_for_best (with_outlines os w) line g ≡ asked_for_best w line g
+unfolding count_of take_item
+same-asked_for_best os w line g = refl
+
+pub same-sort_by : (os : List (Option Outline)) (w : Setting) (levels line : ℕ) (backwards : Bool) (ps : List (Value × Value)) → sort_by (with_outlines os w) levels line backwards ps ≡ sort_by w levels line backwards ps
+unfolding compare
+same-sort_by os w levels line backwards ps = refl
+
+pub same-best_by : (os : List (Option Outline)) (w : Setting) (levels line : ℕ) (better : Ordering → Bool) (ps : List (Value × Value)) → best_by (with_outlines os w) levels line better ps ≡ best_by w levels line better ps
+unfolding compare
+same-best_by os w levels line better ps = refl
 
 pub same-call_method : (os : List (Option Outline)) (w : Setting) (levels line : ℕ) (b : Method) (x : Value) (g : Arguments) → call_method (with_outlines os w) levels line b x g ≡ call_method w levels line b x g
 unfolding call_method call_built_in attribute operate prefix comparison pairs_of put_pairs dict_of update_with index put_entry set_index slice count_of take_item iterate is_true equal compare check_key repr str guard change extend name_key

@@ -1,6 +1,7 @@
 -- Calls: the entries of `**name`, the run of a function, and the calls of functions, built-in functions and methods.
-use Rattle.std.proofs.Common.{◌≡◌, ℕ, ◌+◌, List, [], ◌∷◌, Option, Some, None, false, refl}
+use Rattle.std.proofs.Common.{◌≡◌, ℕ, ◌+◌, List, [], ◌∷◌, Option, Some, None, false, refl, Bool, true}
 use Rattle.std.specs.Ordering.{is_gt, is_lt}
+use Rattle.std.specs.declared.cmp.Ordering.{Ordering}
 use Rattle.star_store.specs.declared.names.BuiltIn.{BuiltIn}
 use Rattle.star_store.specs.declared.names.BuiltIn.TheVariants as built_in
 use Rattle.star_store.specs.declared.values.Function.{Function}
@@ -15,7 +16,7 @@ use Rattle.star_meaning.specs.declared.site.Site.{Site}
 use Rattle.star_meaning.specs.Arguments.{EvaluatedArgument, given, none_or_one}
 use Rattle.star_meaning.specs.Binding.{Names, One, Rest, BoundArgument, bound_to, build_argument, build_arguments}
 use Rattle.star_meaning.specs.BuiltIns.{call_built_in, call_dict}
-use Rattle.star_meaning.specs.Calls.{ABuiltIn, AFunction, AMethod, Callee, activate, call_node, called, deactivate, run, run_body}
+use Rattle.star_meaning.specs.Calls.{ABuiltIn, AFunction, AMethod, Callee, activate, best_by_key, call_node, called, called_built_in, called_by_key, called_plainly, deactivate, key_of, keyed, only, run, run_body, sorted_by_key, takes_key, with_keys}
 use Rattle.star_meaning.specs.Semantics.{Semantics}
 use Rattle.star_meaning.specs.Pairs.{dict_of, pairs_count, pairs_of}
 use Rattle.star_meaning.specs.Program.{Setting, Variables, seen}
@@ -31,6 +32,7 @@ use Rattle.star_meaning.proofs.KeepsArguments.{respects-none_or_one}
 use Rattle.star_meaning.proofs.KeepsAttributes.{respects-call_chr, respects-call_dir, respects-call_getattr, respects-call_hasattr, respects-call_ord, respects-call_struct}
 use Rattle.star_meaning.proofs.KeepsBuiltIns.{respects-call_abs, respects-call_all, respects-call_any, respects-call_best, respects-call_bool, respects-call_enumerate, respects-call_fail, respects-call_int, respects-call_len, respects-call_list, respects-call_print, respects-call_range, respects-call_repr, respects-call_reversed, respects-call_sorted, respects-call_str, respects-call_tuple, respects-call_type, respects-call_zip}
 use Rattle.star_meaning.proofs.KeepsCallee.{respects-callee}
+use Rattle.star_meaning.proofs.KeepsOrders.{respects-asked_for_best, respects-asked_to_sort, respects-best_by, respects-sort_by}
 use Rattle.star_once.proofs.KeepsCalls.{keeps-pass, keeps-run_body}
 use Rattle.star_meaning.proofs.KeepsMethods.{respects-call_method}
 use Rattle.star_meaning.proofs.KeepsPairs.{respects-pairs_count}
@@ -110,7 +112,7 @@ built_in_differs w levels line built_in.Print g s h n = (once_by (respects-call_
 built_in_differs w levels line built_in.Range g s h n = (once_by (respects-call_range w line g)).holds s h
 built_in_differs w levels line built_in.Repr g s h n = (once_by (respects-call_repr w levels line g)).holds s h
 built_in_differs w levels line built_in.Reversed g s h n = (once_by (respects-call_reversed w line g)).holds s h
-built_in_differs w levels line built_in.Sorted g s h n = (once_by (respects-call_sorted w line g)).holds s h
+built_in_differs w levels line built_in.Sorted g s h n = (once_by (respects-call_sorted w levels line g)).holds s h
 built_in_differs w levels line built_in.Str g s h n = (once_by (respects-call_str w levels line g)).holds s h
 built_in_differs w levels line built_in.Tuple g s h n = (once_by (respects-call_tuple w line g)).holds s h
 built_in_differs w levels line built_in.Type g s h n = (once_by (respects-call_type w line g)).holds s h
@@ -126,10 +128,45 @@ found_call : (w : Setting) (m : Semantics) (p : Site) (f : Function) (d : Defini
 found_call w m p f d None s k h a = tt
 found_call w m p f d (Some xs) s k h a = (k.call p f d xs).holds s h (a xs refl)
 
+plainly_differs : (w : Setting) (levels : ℕ) (m : Semantics) (p : Site) (c : Callee) (g : Arguments) (s : State) → AllKeep w m → KeysDiffer w s → NamedOnce (seen w s) g.named → writes.Held w (called_plainly w levels m p c g s)
+plainly_differs w levels m p (AFunction f d) g s k h n = found_call w m p f d (bound_to d.parameters f.defaults g) s k h (bound_once (seen w s) d.parameters f.defaults g n)
+plainly_differs w levels m p (ABuiltIn b) g s k h n = built_in_differs w levels p.line b g s h n.0
+plainly_differs w levels m p (AMethod b x) g s k h n = (once_by (respects-call_method w levels p.line b x g)).holds s h
+
+-- a key is the answer of a call with one value and no names
+plain_only : (w : Setting) (levels : ℕ) (m : Semantics) (p : Site) (c : Callee) (x : Value) → AllKeep w m → Keeps w (called_plainly w levels m p c (only x))
+plain_only w levels m p c x k = record { holds = λ s h. plainly_differs w levels m p c (only x) s k h (tt, refl) }
+
+keeps-key_of : (w : Setting) (levels : ℕ) (m : Semantics) (p : Site) (f x : Value) → AllKeep w m → Keeps w (key_of w levels m p f x)
+keeps-key_of w levels m p f x k = search (keeps, once_by, respects-callee, plain_only) depth 14
+
+keeps-keyed : (w : Setting) (levels : ℕ) (m : Semantics) (p : Site) (f x : Value) → AllKeep w m → Keeps w (keyed w levels m p f x)
+keeps-keyed w levels m p f x k = search (keeps, keeps-key_of) depth 14
+
+keeps-with_keys : (w : Setting) (levels : ℕ) (m : Semantics) (p : Site) (o : Option Value) (xs : List Value) → AllKeep w m → Keeps w (with_keys w levels m p o xs)
+keeps-with_keys w levels m p None xs k = search keeps depth 14
+keeps-with_keys w levels m p (Some f) xs k = search (keeps, keeps-keyed) depth 14
+
+keeps-sorted_by_key : (w : Setting) (levels : ℕ) (m : Semantics) (p : Site) (g : Arguments) → AllKeep w m → Keeps w (sorted_by_key w levels m p g)
+keeps-sorted_by_key w levels m p g k = search (keeps, once_by, respects-asked_to_sort, respects-sort_by, keeps-with_keys) depth 14
+
+keeps-best_by_key : (w : Setting) (levels : ℕ) (m : Semantics) (p : Site) (better : Ordering → Bool) (g : Arguments) → AllKeep w m → Keeps w (best_by_key w levels m p better g)
+keeps-best_by_key w levels m p better g k = search (keeps, once_by, respects-asked_for_best, respects-best_by, keeps-with_keys) depth 14
+
+by_key_differs : (w : Setting) (levels : ℕ) (m : Semantics) (p : Site) (b : BuiltIn) (g : Arguments) (s : State) → AllKeep w m → KeysDiffer w s → NamedAll (seen w s) g.named → writes.Held w (called_by_key w levels m p b g s)
+by_key_differs w levels m p built_in.Sorted g s k h n = (keeps-sorted_by_key w levels m p g k).holds s h
+by_key_differs w levels m p built_in.Max g s k h n = (keeps-best_by_key w levels m p is_gt g k).holds s h
+by_key_differs w levels m p built_in.Min g s k h n = (keeps-best_by_key w levels m p is_lt g k).holds s h
+by_key_differs w levels m p b g s k h n = built_in_differs w levels p.line b g s h n
+
+called_built_in_differs : (w : Setting) (levels : ℕ) (m : Semantics) (p : Site) (b : BuiltIn) (g : Arguments) (c : Bool) (s : State) → AllKeep w m → KeysDiffer w s → NamedAll (seen w s) g.named → writes.Held w (called_built_in w levels m p b g c s)
+called_built_in_differs w levels m p b g true s k h n = by_key_differs w levels m p b g s k h n
+called_built_in_differs w levels m p b g false s k h n = built_in_differs w levels p.line b g s h n
+
 called_differs : (w : Setting) (levels : ℕ) (m : Semantics) (p : Site) (c : Callee) (g : Arguments) (s : State) → AllKeep w m → KeysDiffer w s → NamedOnce (seen w s) g.named → writes.Held w (called w levels m p c g s)
-called_differs w levels m p (AFunction f d) g s k h n = found_call w m p f d (bound_to d.parameters f.defaults g) s k h (bound_once (seen w s) d.parameters f.defaults g n)
-called_differs w levels m p (ABuiltIn b) g s k h n = built_in_differs w levels p.line b g s h n.0
-called_differs w levels m p (AMethod b x) g s k h n = (once_by (respects-call_method w levels p.line b x g)).holds s h
+called_differs w levels m p (AFunction f d) g s k h n = plainly_differs w levels m p (AFunction f d) g s k h n
+called_differs w levels m p (ABuiltIn b) g s k h n = called_built_in_differs w levels m p b g (takes_key w.dialect g) s k h n.0
+called_differs w levels m p (AMethod b x) g s k h n = plainly_differs w levels m p (AMethod b x) g s k h n
 
 given_called : (w : Setting) (levels : ℕ) (m : Semantics) (p : Site) (ps : List EvaluatedArgument) (c : Callee) → AllKeep w m → Keeps w (given w p.line ps >>= λ g. called w levels m p c g)
 given_called w levels m p ps c k = record { holds = λ s h. held_then w s _ (given w p.line ps s) (λ g. called w levels m p c g) (given_after w p.line ps s h) (λ g t i stay n. called_differs w levels m p c g t k i n) }

@@ -16,15 +16,19 @@ use Rattle.star_meaning.specs.Run.{State, ◌>>=◌, check}
 use Rattle.star_meaning.specs.Arguments.{positional, only_one, none_or_one}
 use Rattle.star_meaning.specs.Program.{Setting}
 use Rattle.star_meaning.specs.Values.{Content, Truth, Number, Held, content, type_name, new_list}
-use Rattle.star_meaning.specs.BuiltIns.{absolute, call_abs, is_decided, some_item, call_all, call_any, truth_of, call_bool, call_dict, want_start, numbered, call_enumerate, want_separator, joined, print_line, call_print, call_fail, spelled, to_int, call_int, length_in, call_len, taken_from, call_list, call_tuple, call_reversed, best_of, best_in, candidates, call_best, new_range, range_of, is_range_count, call_range, call_repr, call_str, call_type, want_reverse, can_sort, is_before, turned, sort, call_sorted, least, row_at, call_zip, call_built_in}
+use Rattle.star_meaning.specs.BuiltIns.{absolute, call_abs, is_decided, some_item, call_all, call_any, truth_of, call_bool, call_dict, want_start, numbered, call_enumerate, want_separator, joined, print_line, call_print, call_fail, spelled, to_int, call_int, length_in, call_len, taken_from, call_list, call_tuple, call_reversed, best_of, best_in, candidates, call_best, new_range, range_of, is_range_count, call_range, call_repr, call_str, call_type, turned, sort, sort_items, call_sorted, least, row_at, call_zip, call_built_in}
+use Rattle.star_meaning.specs.Orders.{by_itself, can_sort, is_before}
 use Rattle.star_meaning.specs.Sorting.{in_order, placed}
 use Rattle.star_unseen.specs.Veil.{AreVisible, Every, Hides, IsVisible, VisibleIfThere}
 use Rattle.star_unseen.specs.Shelves.{Veil, with_other}
+use Rattle.star_dialect.specs.declared.Dialect.{Dialect}
+use Rattle.star_dialect.specs.declared.Dialect.TheVariants as dialect
+use Rattle.star_unseen.proofs.Orders.{alike-sort_by, alike-want_reverse, visible-by_itself}
 use Rattle.star_unseen.proofs.Rows.{every_append}
 use Rattle.star_unseen.proofs.Looks.{ContentIsVisible, same_content}
 use Rattle.star_unseen.proofs.Visible.{ArgumentsAreVisible}
 use Rattle.star_unseen.proofs.Alike.{Alike, Any, alike_add_line, alike_build, alike_check, alike_collect, alike_content, alike_each, alike_fail, alike_found, alike_give, alike_pay, alike_seeing, alike_then, alike_until}
-use Rattle.star_unseen.proofs.Values.{any_found, alike-want_int, alike-want_bool, alike-want_text, alike-new_int, alike-new_text, alike-new_tuple, alike-new_list, alike-count_of, alike-take_item, alike-take_items, alike-take_all, alike-is_true, alike-compare, alike-repr, alike-str}
+use Rattle.star_unseen.proofs.Values.{any_found, alike-want_int, alike-want_text, alike-new_int, alike-new_text, alike-new_tuple, alike-new_list, alike-count_of, alike-take_item, alike-take_items, alike-take_all, alike-is_true, alike-compare, alike-repr, alike-str}
 use Rattle.star_unseen.proofs.Arguments.{alike-positional, alike-with_name, alike-only_one, alike-none_or_one, alike-one_or_two}
 use Rattle.star_unseen.proofs.Attributes.{alike-call_chr, alike-call_dir, alike-call_getattr, alike-call_hasattr, alike-call_ord, alike-call_struct}
 use Rattle.star_unseen.proofs.Pairs.{alike-pairs_count, alike-pairs_of, alike-dict_of}
@@ -189,10 +193,6 @@ alike-call_type k line g h = alike_then (one_of k line g h) (λ v l. alike_conte
 
 -- ---- sorted
 
-pub alike-want_reverse : {w : Setting} (k : Veil w) (line : ℕ) (o : Option Value) → VisibleIfThere k.hides o → Alike k Any (want_reverse w line o) (want_reverse (with_other k.other w) line o)
-alike-want_reverse k line None h = alike_give Any false tt
-alike-want_reverse k line (Some v) h = alike-want_bool k line v h
-
 same_contents : {w : Setting} (k : Veil w) (s : State) (xs : List Value) → AreVisible k.hides xs → map (content w s) xs ≡ map (content (with_other k.other w) s) xs
 same_contents k s [] h = refl
 same_contents {w = w} k s (x ∷ xs) h = ap (λ c. c ∷ map (content w s) xs) (same_content k s x h.0) ∙ ap (λ cs. content (with_other k.other w) s x ∷ cs) (same_contents k s xs h.1)
@@ -232,11 +232,15 @@ alike-sort {w = w} k line backwards xs h = alike_seeing (IsVisible k.hides) _ _ 
     subst (λ ys. Alike k (IsVisible k.hides) (new_list line (turned backwards (in_order f xs))) (new_list line (turned backwards ys))) (same-in_order k.hides f _ (same_before k s) xs h)
     (alike-new_list k line (turned backwards (in_order f xs)) (visible-turned k.hides backwards (in_order f xs) (visible-in_order k.hides f xs h)))))
 
-pub alike-call_sorted : {w : Setting} (k : Veil w) (line : ℕ) (g : Arguments) → ArgumentsAreVisible k.hides g → Alike k (IsVisible k.hides) (call_sorted w line g) (call_sorted (with_other k.other w) line g)
-alike-call_sorted k line g h =
+pub alike-sort_items : {w : Setting} (k : Veil w) (levels line : ℕ) (backwards : Bool) (xs : List Value) (d : Dialect) → AreVisible k.hides xs → Alike k (IsVisible k.hides) (sort_items w levels line backwards xs d) (sort_items (with_other k.other w) levels line backwards xs d)
+alike-sort_items k levels line backwards xs dialect.Core h = alike-sort k line backwards xs h
+alike-sort_items k levels line backwards xs dialect.Extended h = alike-sort_by k levels line backwards (map by_itself xs) (visible-by_itself k.hides xs h)
+
+pub alike-call_sorted : {w : Setting} (k : Veil w) (levels line : ℕ) (g : Arguments) → ArgumentsAreVisible k.hides g → Alike k (IsVisible k.hides) (call_sorted w levels line g) (call_sorted (with_other k.other w) levels line g)
+alike-call_sorted {w = w} k levels line g h =
     alike_then (alike-with_name k line (codes "reverse") g h) (λ a l. alike_then (alike-only_one k line a.0 l.0) (λ it r.
     alike_then (alike-count_of k line it r) (λ n _. alike_then (alike-want_reverse k line a.1 l.1) (λ backwards _.
-    alike_then (alike-take_items k line it n r) (λ xs q. alike-sort k line backwards xs q)))))
+    alike_then (alike-take_items k line it n r) (λ xs q. alike-sort_items k levels line backwards xs w.dialect q)))))
 
 -- ---- zip
 
@@ -269,7 +273,7 @@ alike-call_built_in k levels line built_in.Print g h = alike-call_print k levels
 alike-call_built_in k levels line built_in.Range g h = alike-call_range k line g h
 alike-call_built_in k levels line built_in.Repr g h = alike-call_repr k levels line g h
 alike-call_built_in k levels line built_in.Reversed g h = alike-call_reversed k line g h
-alike-call_built_in k levels line built_in.Sorted g h = alike-call_sorted k line g h
+alike-call_built_in k levels line built_in.Sorted g h = alike-call_sorted k levels line g h
 alike-call_built_in k levels line built_in.Str g h = alike-call_str k levels line g h
 alike-call_built_in k levels line built_in.Tuple g h = alike-call_tuple k line g h
 alike-call_built_in k levels line built_in.Type g h = alike-call_type k line g h

@@ -1,5 +1,5 @@
 -- Calls over both shelves: the callee, and the run of a function, whose body loads nothing.
-use Rattle.std.proofs.Common.{◌≡◌, ℕ, ◌+◌, not, List, Some, refl, ap}
+use Rattle.std.proofs.Common.{◌≡◌, ℕ, ◌+◌, not, List, Some, refl, ap, Bool, true, false, None, Option, map}
 use Rattle.std.specs.Option.{option_and_then}
 use Rattle.star_store.specs.declared.values.Cell.TheVariants as cell
 use Rattle.star_store.specs.declared.values.Function.{Function}
@@ -18,16 +18,22 @@ use Rattle.star_meaning.specs.declared.site.Flow.TheVariants as flow
 use Rattle.star_meaning.specs.declared.site.Site.{Site}
 use Rattle.star_meaning.specs.Arguments.{Named, Plain, Star, StarStar}
 use Rattle.star_meaning.specs.Binding.{BoundArgument, bound_to}
-use Rattle.star_meaning.specs.Calls.{ABuiltIn, AFunction, AMethod, Callee, answer_of, call_node, called, callee, callee_of, function_callee, is_active, pass, pass_form, run, run_body}
+use Rattle.star_meaning.specs.Calls.{ABuiltIn, AFunction, AMethod, Callee, answer_of, best_by_key, call_node, called, called_built_in, called_by_key, called_plainly, callee, callee_of, key_of, keyed, only, sorted_by_key, takes_key, with_keys, function_callee, is_active, pass, pass_form, run, run_body}
 use Rattle.star_meaning.specs.Program.{Setting, Variables, definition_of}
 use Rattle.star_meaning.specs.Semantics.{Semantics}
 use Rattle.star_meaning.specs.Values.{BuiltInFunction, Content, Held}
-use Rattle.star_unseen.specs.Veil.{Every, FileIsVisible, IsVisible}
+use Rattle.star_unseen.specs.Veil.{AreVisible, Every, FileIsVisible, Hides, IsVisible, VisibleIfThere}
 use Rattle.star_unseen.specs.Shelves.{BodyIsPlaced, Veil, with_other}
-use Rattle.star_unseen.proofs.Alike.{Alike, Any, FlowIsVisible, alike_activate, alike_all_of, alike_block, alike_check, alike_content, alike_deactivate, alike_fail, alike_finds, alike_found, alike_give, alike_pay, alike_seeing, alike_then}
+use Rattle.star_unseen.proofs.Alike.{Alike, Any, FlowIsVisible, alike_activate, alike_all_of, alike_block, alike_check, alike_content, alike_deactivate, alike_each, alike_fail, alike_finds, alike_found, alike_give, alike_pay, alike_seeing, alike_then}
 use Rattle.star_unseen.proofs.Arguments.{alike-given}
 use Rattle.star_unseen.proofs.Binding.{alike-build_arguments, visible-bound_to}
 use Rattle.star_unseen.proofs.BuiltIns.{alike-call_built_in}
+use Rattle.star_unseen.proofs.Orders.{PairIsVisible, alike-asked_for_best, alike-asked_to_sort, alike-best_by, alike-sort_by, visible-by_itself}
+use Rattle.std.specs.Ordering.{is_gt, is_lt}
+use Rattle.std.specs.declared.cmp.Ordering.{Ordering}
+use Rattle.star_store.specs.declared.names.BuiltIn.{BuiltIn}
+use Rattle.star_store.specs.declared.names.BuiltIn.TheVariants as built_in
+use Rattle.star_meaning.specs.Orders.{by_itself}
 use Rattle.star_unseen.proofs.Visible.{ArgumentIsVisible, ArgumentsAreVisible, CalleeIsVisible, FunctionIsVisible, ShareIsVisible, SiteIsVisible}
 use Rattle.star_unseen.proofs.Looks.{ContentIsVisible}
 use Rattle.star_unseen.proofs.Methods.{alike-call_method}
@@ -68,13 +74,48 @@ alike-callee k line v h = alike_content (CalleeIsVisible k.hides) v _ _ h (λ c 
 
 -- ---- the call
 
-pub alike-called : {w : Setting} (k : Veil w) (levels : ℕ) (m n : Semantics) (p : Site) (x : Callee) (g : Arguments) → AllAlike k m n → SiteIsVisible k.hides p → CalleeIsVisible k.hides x → ArgumentsAreVisible k.hides g
-    → Alike k (IsVisible k.hides) (called w levels m p x g) (called (with_other k.other w) levels n p x g)
-alike-called k levels m n p (AFunction f d) g b c h i =
+alike-called_plainly : {w : Setting} (k : Veil w) (levels : ℕ) (m n : Semantics) (p : Site) (x : Callee) (g : Arguments) → AllAlike k m n → SiteIsVisible k.hides p → CalleeIsVisible k.hides x → ArgumentsAreVisible k.hides g
+    → Alike k (IsVisible k.hides) (called_plainly w levels m p x g) (called_plainly (with_other k.other w) levels n p x g)
+alike-called_plainly k levels m n p (AFunction f d) g b c h i =
     alike_then (alike_found (Every (ShareIsVisible k.hides)) code.Args p.line (bound_to d.parameters f.defaults g) (visible-bound_to k d.parameters f.defaults g h.0.0 i)) (λ shares hs.
     b.call p f d shares c h.0 h.1 hs)
-alike-called k levels m n p (ABuiltIn x) g b c h i = alike-call_built_in k levels p.line x g i
-alike-called k levels m n p (AMethod x v) g b c h i = alike-call_method k levels p.line x v g h i
+alike-called_plainly k levels m n p (ABuiltIn x) g b c h i = alike-call_built_in k levels p.line x g i
+alike-called_plainly k levels m n p (AMethod x v) g b c h i = alike-call_method k levels p.line x v g h i
+
+visible-only : (hides : Hides) (x : Value) → IsVisible hides x → ArgumentsAreVisible hides (only x)
+visible-only hides x h = ((h, tt), tt)
+
+alike-key_of : {w : Setting} (k : Veil w) (levels : ℕ) (m n : Semantics) (p : Site) (f x : Value) → AllAlike k m n → SiteIsVisible k.hides p → IsVisible k.hides f → IsVisible k.hides x → Alike k (IsVisible k.hides) (key_of w levels m p f x) (key_of (with_other k.other w) levels n p f x)
+alike-key_of k levels m n p f x b c hf hx = alike_then (alike-callee k p.line f hf) (λ y hy. alike-called_plainly k levels m n p y (only x) b c hy (visible-only k.hides x hx))
+
+alike-keyed : {w : Setting} (k : Veil w) (levels : ℕ) (m n : Semantics) (p : Site) (f x : Value) → AllAlike k m n → SiteIsVisible k.hides p → IsVisible k.hides f → IsVisible k.hides x → Alike k (PairIsVisible k.hides) (keyed w levels m p f x) (keyed (with_other k.other w) levels n p f x)
+alike-keyed k levels m n p f x b c hf hx = alike_then (alike-key_of k levels m n p f x b c hf hx) (λ y hy. alike_give (PairIsVisible k.hides) (y, x) (hy, hx))
+
+alike-with_keys : {w : Setting} (k : Veil w) (levels : ℕ) (m n : Semantics) (p : Site) (o : Option Value) (xs : List Value) → AllAlike k m n → SiteIsVisible k.hides p → VisibleIfThere k.hides o → AreVisible k.hides xs → Alike k (Every (PairIsVisible k.hides)) (with_keys w levels m p o xs) (with_keys (with_other k.other w) levels n p o xs)
+alike-with_keys k levels m n p None xs b c ho hs = alike_give (Every (PairIsVisible k.hides)) (map by_itself xs) (visible-by_itself k.hides xs hs)
+alike-with_keys k levels m n p (Some f) xs b c ho hs = alike_each (IsVisible k.hides) (PairIsVisible k.hides) _ _ xs hs (λ x hx. alike-keyed k levels m n p f x b c ho hx)
+
+alike-sorted_by_key : {w : Setting} (k : Veil w) (levels : ℕ) (m n : Semantics) (p : Site) (g : Arguments) → AllAlike k m n → SiteIsVisible k.hides p → ArgumentsAreVisible k.hides g → Alike k (IsVisible k.hides) (sorted_by_key w levels m p g) (sorted_by_key (with_other k.other w) levels n p g)
+alike-sorted_by_key k levels m n p g b c h = alike_then (alike-asked_to_sort k p.line g h) (λ a ha. alike_then (alike-with_keys k levels m n p a.1 a.0 b c ha.1 ha.0) (λ ps hps. alike-sort_by k levels p.line a.2 ps hps))
+
+alike-best_by_key : {w : Setting} (k : Veil w) (levels : ℕ) (m n : Semantics) (p : Site) (better : Ordering → Bool) (g : Arguments) → AllAlike k m n → SiteIsVisible k.hides p → ArgumentsAreVisible k.hides g → Alike k (IsVisible k.hides) (best_by_key w levels m p better g) (best_by_key (with_other k.other w) levels n p better g)
+alike-best_by_key k levels m n p better g b c h = alike_then (alike-asked_for_best k p.line g h) (λ a ha. alike_then (alike-with_keys k levels m n p a.1 a.0 b c ha.1 ha.0) (λ ps hps. alike-best_by k levels p.line better ps hps))
+
+alike-called_by_key : {w : Setting} (k : Veil w) (levels : ℕ) (m n : Semantics) (p : Site) (x : BuiltIn) (g : Arguments) → AllAlike k m n → SiteIsVisible k.hides p → ArgumentsAreVisible k.hides g → Alike k (IsVisible k.hides) (called_by_key w levels m p x g) (called_by_key (with_other k.other w) levels n p x g)
+alike-called_by_key k levels m n p built_in.Sorted g b c h = alike-sorted_by_key k levels m n p g b c h
+alike-called_by_key k levels m n p built_in.Max g b c h = alike-best_by_key k levels m n p is_gt g b c h
+alike-called_by_key k levels m n p built_in.Min g b c h = alike-best_by_key k levels m n p is_lt g b c h
+alike-called_by_key k levels m n p x g b c h = alike-call_built_in k levels p.line x g h
+
+alike-called_built_in : {w : Setting} (k : Veil w) (levels : ℕ) (m n : Semantics) (p : Site) (x : BuiltIn) (g : Arguments) (d : Bool) → AllAlike k m n → SiteIsVisible k.hides p → ArgumentsAreVisible k.hides g → Alike k (IsVisible k.hides) (called_built_in w levels m p x g d) (called_built_in (with_other k.other w) levels n p x g d)
+alike-called_built_in k levels m n p x g true b c h = alike-called_by_key k levels m n p x g b c h
+alike-called_built_in k levels m n p x g false b c h = alike-call_built_in k levels p.line x g h
+
+pub alike-called : {w : Setting} (k : Veil w) (levels : ℕ) (m n : Semantics) (p : Site) (x : Callee) (g : Arguments) → AllAlike k m n → SiteIsVisible k.hides p → CalleeIsVisible k.hides x → ArgumentsAreVisible k.hides g
+    → Alike k (IsVisible k.hides) (called w levels m p x g) (called (with_other k.other w) levels n p x g)
+alike-called k levels m n p (AFunction f d) g b c h i = alike-called_plainly k levels m n p (AFunction f d) g b c h i
+alike-called {w = w} k levels m n p (ABuiltIn x) g b c h i = alike-called_built_in k levels m n p x g (takes_key w.dialect g) b c i
+alike-called k levels m n p (AMethod x v) g b c h i = alike-called_plainly k levels m n p (AMethod x v) g b c h i
 
 pub alike-call_node : {w : Setting} (k : Veil w) (levels : ℕ) (m n : Semantics) (p : Site) (f : Expression) (es : List Argument) → AllAlike k m n → SiteIsVisible k.hides p
     → Alike k (IsVisible k.hides) (call_node w levels m p f es) (call_node (with_other k.other w) levels n p f es)

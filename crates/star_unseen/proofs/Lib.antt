@@ -13,6 +13,7 @@ mod ListMethods
 mod Looks
 mod Methods
 mod Operators
+mod Orders
 mod Pairs
 mod Parts
 mod Percent

@@ -83,12 +83,20 @@ impl<'a> Below<'a> {
         &self,
         rt: &HostRuntime,
         alloc: Global,
+        word: &str,
         front: &str,
     ) -> Result<BTreeSet<Label>, Refusal> {
+        let Some(label) = label_below(alloc, self.here, front)? else {
+            return Ok(BTreeSet::new(alloc));
+        };
         let mut folder = DiskRepo::new(rt, self.top);
-        match label_below(alloc, self.here, front)? {
-            Some(label) => Ok(files_below(alloc, &mut folder, label.package(), self.filter)?),
-            None => Ok(BTreeSet::new(alloc)),
+        match files_below(alloc, &mut folder, label.package(), self.filter) {
+            Ok(found) => Ok(found),
+            Err(ServeError::BadDir) => {
+                let word = String::from_str(alloc, word)?;
+                Err(Refusal::Unlisted { word })
+            }
+            Err(error) => Err(Refusal::from(error)),
         }
     }
 
@@ -119,7 +127,7 @@ impl<'a> Below<'a> {
         front: &str,
         roots: &mut Roots,
     ) -> Result<(), Refusal> {
-        let found = self.found(rt, alloc, front)?;
+        let found = self.found(rt, alloc, word, front)?;
         if found.is_empty() {
             let word = String::from_str(alloc, word)?;
             return Err(Refusal::Unmatched { word });

@@ -12,7 +12,7 @@ use star_serve::serve::{Form, Options, Output, Style, Wanted};
 use std::alloc::{AllocError, Global};
 
 /// The words of `--version` after the program's name: its version, and the kit that proved it.
-const VERSION: &str = "1.8.0 (rattle-kit-13f logic dac8208d650f15bf)";
+const VERSION: &str = "1.9.0 (rattle-kit-13f logic dac8208d650f15bf)";
 
 /// The end of the help, after the options.
 const EXAMPLE: &str =
@@ -228,6 +228,22 @@ fn requests_arg<'a>(alloc: Global) -> Result<Arg<'a>, AllocError> {
         .conflicts_with("progress")
 }
 
+fn join_arg<'a>(alloc: Global) -> Result<Arg<'a>, AllocError> {
+    flag_arg(alloc, "join")
+        .help(
+            "Joins the reports on standard input, one a line, to the report of all their roots; takes ROOT only with --only-roots",
+        )
+        .conflicts_with("repo")?
+        .conflicts_with("dir")?
+        .conflicts_with("prelude")?
+        .conflicts_with("with")?
+        .conflicts_with("get")?
+        .conflicts_with("graph")?
+        .conflicts_with("check")?
+        .conflicts_with("trace")?
+        .conflicts_with("requests")
+}
+
 // (`requires_arg` would be met by the default of a flag.)
 fn keep_arg<'a>(alloc: Global) -> Result<Arg<'a>, AllocError> {
     valued_arg(alloc, "keep", "BYTES")
@@ -242,7 +258,8 @@ fn roots_arg<'a>(alloc: Global) -> Result<Arg<'a>, AllocError> {
         .help("The labels of the files to load, such as //app:main.star")
         .action(ArgAction::Append)
         .required_unless_present("explain-code")?
-        .required_unless_present("requests")
+        .required_unless_present("requests")?
+        .required_unless_present("join")
 }
 
 /// Adds the options of a run and of its files.
@@ -275,11 +292,12 @@ fn with_output<'a>(alloc: Global, command: Command<'a>) -> Result<Command<'a>, A
         .arg(code_arg(alloc))
 }
 
-/// Adds the options of requests, and the roots.
+/// Adds the options of requests and of joins, and the roots.
 fn with_requests<'a>(alloc: Global, command: Command<'a>) -> Result<Command<'a>, AllocError> {
     command
         .arg(requests_arg(alloc)?)?
         .arg(keep_arg(alloc)?)?
+        .arg(join_arg(alloc)?)?
         .arg(roots_arg(alloc)?)
 }
 

@@ -15,6 +15,7 @@ ghost use Rattle.std.specs.Prelude.{◌≤◌};
 mod below;
 mod codes;
 mod command;
+mod join;
 mod progress;
 mod repo;
 mod requests;
@@ -31,6 +32,7 @@ use star_folder::disk::DiskFolder;
 use star_folder::folder::Folder;
 use star_hint::bundle::about_bundle;
 use star_hint::folder::about_folder;
+use star_mistakes::place::shown;
 use star_serve::dir::serve_dir;
 use star_serve::ends::{CountedReader, KeptReader};
 use star_serve::serve::{Options, serve};
@@ -182,13 +184,20 @@ fn report_bundle<H: Threads + Wait + Sync>(
 fn about_files<F: Folder>(
     alloc: Global,
     folder: &mut F,
+    dir: &str,
     options: &Options,
+    error: ServeError,
 ) -> Result<String, AllocError> {
     if options.explain.is_none() {
         return Ok(String::new(alloc));
     }
     let (roots, prelude) = (options.roots.as_slice(), options.prelude.as_ref());
-    about_folder(alloc, folder, roots, prelude)
+    let about = about_folder(alloc, folder, roots, prelude)?;
+    if about.is_empty() && error == ServeError::BadDir {
+        let dir = shown(alloc, dir)?;
+        return format!(in alloc; "  the folder is `{dir}`\n");
+    }
+    Ok(about)
 }
 
 /// Writes the report of the files of a folder, or says why there is none. The loaders are threads of `threads`.
@@ -208,7 +217,8 @@ fn report_folder<H: Threads + Wait + Sync>(
     let outcome = serve_dir(threads, alloc, &mut folder, report, said, options);
     let outcome = outcome.and_then(|all_ok| streams.ended(all_ok));
     if let Err(error) = &outcome {
-        say_refusal(rt, *error, about_files(alloc, &mut folder, options));
+        let about = about_files(alloc, &mut folder, dir, options, *error);
+        say_refusal(rt, *error, about);
     }
     outcome
 }
@@ -278,6 +288,9 @@ fn main(rt: HostRuntime) -> ExitCode {
     };
     if let Some(code) = matches.get_str("explain-code") {
         return explain_code(&rt, code);
+    }
+    if matches.get_flag("join") {
+        return join::join_reports(&rt, alloc, &matches);
     }
     let errors = errors_of(&rt);
     let mut options = match options(alloc, &matches, errors) {

@@ -164,6 +164,17 @@ pub(crate) enum Refusal {
     Unmatched {
         word: String,
     },
+    /// The folder of `--repo`, if it cannot be listed, and why.
+    #[error("cannot list the folder: {dir}: {error}")]
+    Top {
+        dir: String,
+        error: io::Error,
+    },
+    /// A word that asks for files below a folder, if that or a folder below it cannot be listed.
+    #[error("cannot list the folder: {word}")]
+    Unlisted {
+        word: String,
+    },
 }
 
 impl From<RepoError> for Refusal {
@@ -198,6 +209,15 @@ impl From<LabelError> for Refusal {
     fn from(_error: LabelError) -> Refusal {
         Refusal::from(ServeError::Memory)
     }
+}
+
+/// The refusal of a folder that cannot be listed.
+fn no_top(alloc: Global, dir: &str, error: io::Error) -> Result<Refusal, AllocError> {
+    if error.kind() == io::ErrorKind::OutOfMemory {
+        return Ok(Refusal::from(ServeError::Memory));
+    }
+    let dir = String::from_str(alloc, dir)?;
+    Ok(Refusal::Top { dir, error })
 }
 
 /// The package of the folder that the program was called in: none where no label names a file there.
@@ -390,8 +410,9 @@ fn reported<H: Threads + Wait + Sync>(
     requires loaders { (1 ≤ options.loaders) × (options.loaders ≤ 64) }
     requires steps { (1 ≤ options.mode.steps) × (options.mode.steps ≤ 100000000) }
 {
-    let Ok(place) = folder_place(rt, alloc, asked.dir.as_str()) else {
-        return Err(Refusal::from(ServeError::BadDir));
+    let place = match folder_place(rt, alloc, asked.dir.as_str()) {
+        Ok(place) => place,
+        Err(error) => return Err(no_top(alloc, asked.dir.as_str(), error)?),
     };
     let Roots { labels, left_out } = roots_named(
         rt,

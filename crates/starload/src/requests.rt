@@ -76,8 +76,14 @@ fn real_of(rt: &HostRuntime, asked: Option<FolderAsked<'_>>) -> io::Result<Strin
     }
 }
 
-/// Answers requests until standard input ends: about the files of the folder, or else about those that they send. All of them may take some `keep` bytes of memory more than the largest alone. The loaders are threads of
-/// `threads`.
+/// Says that a folder cannot be listed, and why.
+fn refuse_folder(rt: &HostRuntime, dir: &str, error: &io::Error) -> ExitCode {
+    let _ = eprintln!(rt; "starload: cannot list the folder: {dir}: {error}");
+    ExitCode::from(2)
+}
+
+/// Answers requests until standard input ends: about the files of the folder, or else about those that they send. All of
+/// them may take some `keep` bytes of memory more than the largest alone. The loaders are threads of `threads`.
 pub(crate) fn answer_requests<H: Threads + Wait + Sync>(
     rt: &HostRuntime,
     threads: &H,
@@ -101,10 +107,11 @@ pub(crate) fn answer_requests<H: Threads + Wait + Sync>(
         Some(_) => Origin::Folder,
         None => Origin::Sent,
     };
-    let Ok(real) = real_of(rt, asked) else {
-        return refuse(rt, ServeError::BadDir.text());
-    };
     let FolderAsked { dir, links } = asked.unwrap_or(NOWHERE);
+    let real = match real_of(rt, asked) {
+        Ok(real) => real,
+        Err(error) => return refuse_folder(rt, dir, &error),
+    };
     let wanted = match output {
         Output::Report(wanted) => wanted,
         _ => Wanted::NOTHING,

@@ -12,6 +12,7 @@ use Rattle.star_eval.specs.Steps.{all_left, opened_left, remaining_turns}
 use Rattle.star_call.proofs.Seen.{drop_next}
 use Rattle.star_machine.proofs.Each.{each_more}
 use Rattle.star_enter.proofs.Positional.{call_gives}
+use Rattle.star_eval.proofs.Keys.{sorted_steps}
 use Rattle.star_eval.proofs.Clauses.{clause_ended, filled_ends, filled_well, first_of, if_holds, turn_ended, turn_opened}
 use Rattle.star_eval.proofs.Spends.{expression_spends}
 use Rattle.star_call.specs.Callees.{function_of}
@@ -99,6 +100,12 @@ pub evaluate::evaluate_entries-loop-entry-preserved : goal.evaluate::evaluate_en
 evaluate::evaluate_entries-loop-entry-preserved t c =
     let next = drop_next c.args.entries.now c.loop-entry.entry-index c.entry-item.result c.loop-entry-test.true c.entry-item.is in
     each_more (entry_of (semantics c.args.world.now c.args.levels) c.args.site.now) _ _ _ _ _ _ _ _ _ next c.in_ok-key.ensures c.in_ok-push.ensures.pushed c.loop-entry.invariant
+
+pub orders::sorted_by_key-returns : goal.orders::sorted_by_key-returns
+orders::sorted_by_key-returns t c =
+    let w = c.args.world.now in
+    sorted_steps w.setting c.args.levels (semantics w c.args.levels) c.args.site.now c.args.given.now c.args.machine.now c.asked_to_sort.new.machine c.with_keys.new.machine c.sort_by.new.machine c.in_ok-asked.asked c.in_ok-pairs.pairs.items c.sort_by.result
+    (rw (← c.setting-setting.ensures) c.in_ok-asked.ensures) (rw (← c.as_slice-items.ensures) c.in_ok-pairs.ensures) (rw (← c.setting-setting.ensures, ← c.deref.ensures.value) c.sort_by.ensures)
 
 pub evaluate::run_bound-returns-in_err-site : goal.evaluate::run_bound-returns-in_err-site
 evaluate::run_bound-returns-in_err-site t c = λ shares b.

@@ -1,5 +1,5 @@
 use Rattle.std.proofs.Common.{◌≡◌, List, ◌+◌, ◌-◌, ◌*◌, ◌^◌, ◌≤◌, drop, length, vec_len}
-use Rattle.star_meaning.specs.Calls.{pass}
+use Rattle.star_meaning.specs.Calls.{keyed, pass}
 use Rattle.star_meaning.specs.Expressions.{defaults, entry_of}
 use Rattle.star_machine.specs.Refines.{with_front}
 use Rattle.star_meaning.specs.Semantics.{block, turns}
@@ -80,19 +80,43 @@ abbrev pub decreases-execute::augment_target : goal.decreases-execute::augment_t
 decreases-execute::augment_target l = 2 ^ 70 * l.levels + 2
 
 abbrev pub decreases-evaluate::call_on : goal.decreases-evaluate::call_on
-decreases-evaluate::call_on l = 2 ^ 70 * l.levels + 2
+decreases-evaluate::call_on l = 2 ^ 70 * l.levels + 9
+
+abbrev pub decreases-evaluate::call_plainly : goal.decreases-evaluate::call_plainly
+decreases-evaluate::call_plainly l = 2 ^ 70 * l.levels + 2
+
+abbrev pub decreases-evaluate::call_built_in_on : goal.decreases-evaluate::call_built_in_on
+decreases-evaluate::call_built_in_on l = 2 ^ 70 * l.levels + 8
+
+abbrev pub decreases-orders::key_of : goal.decreases-orders::key_of
+decreases-orders::key_of l = 2 ^ 70 * l.levels + 3
+
+abbrev pub decreases-orders::keyed_each : goal.decreases-orders::keyed_each
+decreases-orders::keyed_each l = 2 ^ 70 * l.levels + 4
+
+abbrev pub decreases-orders::with_keys : goal.decreases-orders::with_keys
+decreases-orders::with_keys l = 2 ^ 70 * l.levels + 5
+
+abbrev pub decreases-orders::sorted_by_key : goal.decreases-orders::sorted_by_key
+decreases-orders::sorted_by_key l = 2 ^ 70 * l.levels + 6
+
+abbrev pub decreases-orders::best_by_key : goal.decreases-orders::best_by_key
+decreases-orders::best_by_key l = 2 ^ 70 * l.levels + 6
+
+abbrev pub decreases-orders::call_by_key : goal.decreases-orders::call_by_key
+decreases-orders::call_by_key l = 2 ^ 70 * l.levels + 7
 
 abbrev pub decreases-execute::unpack_to : goal.decreases-execute::unpack_to
 decreases-execute::unpack_to l = 2 ^ 70 * l.levels + 3
 
 abbrev pub decreases-evaluate::call : goal.decreases-evaluate::call
-decreases-evaluate::call l = 2 ^ 70 * l.levels + 4
+decreases-evaluate::call l = 2 ^ 70 * l.levels + 11
 
 abbrev pub decreases-evaluate::call_positional : goal.decreases-evaluate::call_positional
-decreases-evaluate::call_positional l = 2 ^ 70 * l.levels + 3
+decreases-evaluate::call_positional l = 2 ^ 70 * l.levels + 10
 
 abbrev pub decreases-evaluate::call_with : goal.decreases-evaluate::call_with
-decreases-evaluate::call_with l = 2 ^ 70 * l.levels + 3
+decreases-evaluate::call_with l = 2 ^ 70 * l.levels + 10
 
 abbrev pub decreases-evaluate::call_function : goal.decreases-evaluate::call_function
 decreases-evaluate::call_function l = 2 ^ 70 * l.levels + 1
@@ -226,6 +250,11 @@ abbrev pub invariant-evaluate::pass_each-loop-argument : goal.invariant-evaluate
 invariant-evaluate::pass_each-loop-argument l =
     let f = pass (semantics l.world l.levels) l.site in
     with_front (all_shown l.values.items) (each f (drop l.argument-index l.arguments) l.machine) ≡ each f l.arguments l.fn.machine
+
+abbrev pub invariant-orders::keyed_each-loop-item : goal.invariant-orders::keyed_each-loop-item
+invariant-orders::keyed_each-loop-item l =
+    let f = keyed l.world.setting l.levels (semantics l.world l.levels) l.site l.function in
+    with_front l.pairs.items (each f (drop l.item-index l.items) l.machine) ≡ each f l.items l.fn.machine
 
 abbrev pub invariant-execute::execute_each-loop-statement : goal.invariant-execute::execute_each-loop-statement
 invariant-execute::execute_each-loop-statement l =

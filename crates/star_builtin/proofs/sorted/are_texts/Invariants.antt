@@ -1,7 +1,7 @@
 use Rattle.std.proofs.Common.{◌≡◌, drop, map}
 use Rattle.std.specs.List.{list_all}
 use Rattle.star_meaning.specs.Values.{content}
-use Rattle.star_meaning.specs.BuiltIns.{is_text}
+use Rattle.star_meaning.specs.Orders.{is_text}
 use Rattle.star_builtin.proofs.sorted.are_texts.Given as goal
 
 abbrev pub invariant-loop-value : goal.invariant-loop-value

@@ -3,7 +3,7 @@ use Rattle.std.specs.Ordering.{is_lt}
 use Rattle.star_store.specs.declared.values.Value.{Value}
 use Rattle.star_meaning.specs.Values.{content}
 use Rattle.star_builtin.specs.Orders.{by_contents}
-use Rattle.star_builtin.proofs.Orders.{order_same, contents_rank}
+use Rattle.star_builtin.proofs.Contents.{order_same, contents_rank}
 use Rattle.star_builtin.proofs.Sorting.{sorted_by}
 use Rattle.star_builtin.proofs.sorted.in_order.Goals as goal
 

@@ -13,7 +13,7 @@ use Rattle.star_meaning.specs.Run.{State}
 use Rattle.star_meaning.specs.Program.{Setting}
 use Rattle.star_meaning.specs.Values.{Content, Nothing, Truth, Number, BuiltInFunction, Held, Nowhere, content}
 use Rattle.star_machine.specs.Kinds.{bytes_of}
-use Rattle.star_meaning.specs.BuiltIns.{is_int, is_text, can_sort, is_before}
+use Rattle.star_meaning.specs.Orders.{is_int, is_text, can_sort, is_before}
 use Rattle.star_meaning.specs.Sorting.{placed, in_order}
 use Rattle.star_builtin.specs.Orders.{int_in, by_contents}
 
@@ -25,26 +25,26 @@ either : (a b : Bool) → (a || b) ≡ true → (b ≡ true → a ≡ true) → 
 either true b e h = refl
 either false b e h = h e
 
-module _ (p : Value → Bool) (f g : Value → Value → Bool) (alike : (x y : Value) → p x ≡ true → p y ≡ true → f x y ≡ g x y) where
-  all_turn : (x y : Value) (ys : List Value) (b : Bool) → g y x ≡ b → p x ≡ true → list_all p (y ∷ ys) ≡ true → list_all p (placed g x ys) ≡ true → list_all p (placed g x (y ∷ ys)) ≡ true
+module _ {A : Type 0} (p : A → Bool) (f g : A → A → Bool) (alike : (x y : A) → p x ≡ true → p y ≡ true → f x y ≡ g x y) where
+  all_turn : (x y : A) (ys : List A) (b : Bool) → g y x ≡ b → p x ≡ true → list_all p (y ∷ ys) ≡ true → list_all p (placed g x ys) ≡ true → list_all p (placed g x (y ∷ ys)) ≡ true
   all_turn x y ys true e h k ih = rw (e, (both (p y) (list_all p ys) k).0) ih
   all_turn x y ys false e h k ih = rw (e, h) k
 
-  all_placed : (x : Value) (ys : List Value) → p x ≡ true → list_all p ys ≡ true → list_all p (placed g x ys) ≡ true
+  all_placed : (x : A) (ys : List A) → p x ≡ true → list_all p ys ≡ true → list_all p (placed g x ys) ≡ true
   all_placed x [] h k = rw h refl
   all_placed x (y ∷ ys) h k = all_turn x y ys (g y x) refl h k (all_placed x ys h (both (p y) (list_all p ys) k).1)
 
-  all_in_order : (xs : List Value) → list_all p xs ≡ true → list_all p (in_order g xs) ≡ true
+  all_in_order : (xs : List A) → list_all p xs ≡ true → list_all p (in_order g xs) ≡ true
   all_in_order [] k = refl
   all_in_order (x ∷ xs) k = all_placed x (in_order g xs) (both (p x) (list_all p xs) k).0 (all_in_order xs (both (p x) (list_all p xs) k).1)
 
-  placed_alike : (x : Value) (ys : List Value) → p x ≡ true → list_all p ys ≡ true → placed f x ys ≡ placed g x ys
+  placed_alike : (x : A) (ys : List A) → p x ≡ true → list_all p ys ≡ true → placed f x ys ≡ placed g x ys
   placed_alike x [] h k = refl
   placed_alike x (y ∷ ys) h k =
       let b = both (p y) (list_all p ys) k in
       rw (alike y x b.0 h) (ap (λ l. if g y x then y ∷ l else x ∷ y ∷ ys) (placed_alike x ys h b.1))
 
-  order_alike : (xs : List Value) → list_all p xs ≡ true → in_order f xs ≡ in_order g xs
+  pub order_alike : (xs : List A) → list_all p xs ≡ true → in_order f xs ≡ in_order g xs
   order_alike [] k = refl
   order_alike (x ∷ xs) k =
       let b = both (p x) (list_all p xs) k in
@@ -59,7 +59,7 @@ then_equal Less = refl
 then_equal Equal = refl
 then_equal Greater = refl
 
-ints_alike : (c d : Content) → is_int c ≡ true → is_int d ≡ true → is_before c d ≡ is_lt (by_contents c d)
+pub ints_alike : (c d : Content) → is_int c ≡ true → is_int d ≡ true → is_before c d ≡ is_lt (by_contents c d)
 ints_alike (Number x) (Number y) h k = sym (then_equal (int_cmp x y))
 ints_alike (Number x) Nothing h k = cc
 ints_alike (Number x) (Truth b) h k = cc
@@ -76,7 +76,7 @@ held_text : (c : Content) → is_text c ≡ true → c ≡ Held (cell.Text (byte
 held_text (Held (cell.Text t)) h = refl
 held_text _ h = cc
 
-texts_alike : (c d : Content) → is_text c ≡ true → is_text d ≡ true → is_before c d ≡ is_lt (by_contents c d)
+pub texts_alike : (c d : Content) → is_text c ≡ true → is_text d ≡ true → is_before c d ≡ is_lt (by_contents c d)
 texts_alike c d h k =
     let e = held_text c h in
     let f = held_text d k in

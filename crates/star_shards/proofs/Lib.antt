@@ -1,0 +1,10 @@
+pub mod Steps
+pub mod Objects
+pub mod Strings
+pub mod Entries
+pub mod Rows
+pub mod Fronts
+pub mod Splits
+pub mod Reading
+pub mod Gathering
+pub mod Writing

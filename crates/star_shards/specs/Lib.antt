@@ -1,0 +1,7 @@
+-- Joins of reports. In reading order: Places, Entries, Lines, Joined; Read and Written have what the code keeps.
+pub mod Places
+pub mod Entries
+pub mod Lines
+pub mod Joined
+pub mod Read
+pub mod Written
