@@ -2,6 +2,7 @@
 
 use crate::look::{Look, found_at};
 use crate::search::{LEVELS, Visit};
+use star_attribute::attributes::attribute_names;
 use star_found::about::{About, Found, Place, Turn, Type};
 use star_machine::content::{Content, Kind};
 use star_meaning::fault::FaultCode;
@@ -112,7 +113,10 @@ impl<'w, 'a, 't> Look<'w, 'a, 't> {
         left: Option<Value>,
         right: Option<Value>,
     ) -> Result<Option<Found>, AllocError> {
-        let is_of_format = matches!(self.fault.code, FaultCode::BadType | FaultCode::BadValue);
+        let is_of_format = matches!(
+            self.fault.code,
+            FaultCode::BadType | FaultCode::BadValue | FaultCode::Key
+        );
         if is_of_format && operator == BinaryOperator::Modulo {
             if let Some(found) = self.letters(left, right)? {
                 return Ok(Some(found));
@@ -212,10 +216,14 @@ impl<'w, 'a, 't> Look<'w, 'a, 't> {
         Ok(Some(found_at(self.alloc, place, about)))
     }
 
-    /// The names of the fields of a struct.
+    /// The names of the fields of a struct, and of the members of a module.
     fn fields(&self, value: Value) -> Result<Vec<Text>, AllocError> {
+        let setting = self.world.setting();
+        let content = self.machine.content(setting, value);
+        if let Content::BuiltInFunction(_) = content {
+            return attribute_names(self.alloc, setting.dialect(), content);
+        }
         let mut names = Vec::new(self.alloc);
-        let content = self.machine.content(self.world.setting(), value);
         if let Content::Held(Cell::Struct(fields)) = content {
             for name in fields.get().names().iter().take(MOST_KEYS) {
                 names.push(name.share()?)?;

@@ -29,6 +29,8 @@ fn names_of(dialect: Dialect, name: &str) -> Option<&'static [&'static str]> {
         "sorted" if keys => Some(&["key", "reverse"]),
         "sorted" => Some(&["reverse"]),
         "max" | "min" if keys => Some(&["key"]),
+        "int" if keys => Some(&["base"]),
+        "json.encode_indent" => Some(&["indent", "prefix"]),
         _ => Some(&[]),
     }
 }
@@ -308,10 +310,12 @@ impl<'w, 'a, 't> Look<'w, 'a, 't> {
         };
         let word = word_of(function);
         let kind = self.kind(callee);
-        if !matches!(
-            kind,
-            Kind::Function | Kind::BuiltInFunction(_) | Kind::Method(..)
-        ) {
+        let is_called = match kind {
+            Kind::Function | Kind::Method(..) => true,
+            Kind::BuiltInFunction(function) => function.is_function(),
+            _ => false,
+        };
+        if !is_called {
             return match self.fault.code {
                 FaultCode::BadType => self.called(word, callee),
                 _ => Ok(None),

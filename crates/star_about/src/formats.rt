@@ -2,10 +2,12 @@
 
 use crate::fits::Arguments;
 use crate::look::{Look, found_at};
+use star_dialect::Dialect;
 use star_found::about::{About, Found};
 use star_machine::content::Kind;
 use star_meaning::fault::FaultCode;
 use star_store::values::Value;
+use star_strings::characters::{char_of, only_char};
 use star_text::Text;
 use std::alloc::{AllocError, Global};
 
@@ -16,31 +18,109 @@ enum Letter {
     Sign,
     Any,
     Int,
+    /// A string of one character, or the number of one.
+    Character,
     Unknown,
 }
 
 impl Letter {
-    fn of(letter: char) -> Letter {
-        match letter {
-            '%' => Letter::Sign,
-            's' | 'r' => Letter::Any,
-            'd' => Letter::Int,
+    fn of(dialect: Dialect, letter: char) -> Letter {
+        match (letter, dialect) {
+            ('%', _) => Letter::Sign,
+            ('s' | 'r', _) => Letter::Any,
+            ('d', _) => Letter::Int,
+            ('x' | 'X' | 'o', Dialect::Extended) => Letter::Int,
+            ('c', Dialect::Extended) => Letter::Character,
             _ => Letter::Unknown,
         }
     }
 }
 
-/// The letters after the signs `%` of a format, in order.
-fn letters_of(alloc: Global, format: &str) -> Result<Vec<char>, AllocError> {
-    let mut letters = Vec::new(alloc);
-    let mut is_open = false;
-    for c in format.chars() {
-        if is_open {
-            letters.push(c)?;
-        }
-        is_open = !is_open && c == '%';
+/// A format after a `%`.
+#[derive(Clone, Copy)]
+struct Format<'x> {
+    /// All of it, from the `%` on.
+    text: &'x str,
+    /// The name in parentheses.
+    name: Option<&'x str>,
+    letter: Letter,
+}
+
+/// A place in a format: outside of formats, or in one that begins at a byte.
+#[derive(Clone, Copy)]
+enum Reading {
+    Outside,
+    Sign(usize),
+    Name(usize),
+    /// After the name, which ends at the second byte.
+    Named(usize, usize),
+}
+
+/// The bytes of a text from one place to another.
+fn between(text: &str, start: usize, end: usize) -> &str {
+    text.get(start..end).unwrap_or("")
+}
+
+/// Whether a name begins after a `%`.
+fn opens(dialect: Dialect, letter: char) -> bool {
+    match dialect {
+        Dialect::Core => false,
+        Dialect::Extended => letter == '(',
     }
-    Ok(letters)
+}
+
+/// The formats after the signs `%` of a string, in order.
+fn formats_of<'x>(
+    alloc: Global,
+    dialect: Dialect,
+    text: &'x str,
+) -> Result<Vec<Format<'x>>, AllocError> {
+    let mut formats = Vec::new(alloc);
+    let mut reading = Reading::Outside;
+    for (at, c) in text.char_indices() {
+        let end = at.saturating_add(c.len_utf8());
+        reading = match reading {
+            Reading::Outside if c == '%' => Reading::Sign(at),
+            Reading::Sign(start) if opens(dialect, c) => Reading::Name(start),
+            Reading::Name(start) if c == ')' => Reading::Named(start, at),
+            Reading::Outside | Reading::Name(_) => reading,
+            Reading::Sign(start) => {
+                formats.push(Format {
+                    text: between(text, start, end),
+                    name: None,
+                    letter: Letter::of(dialect, c),
+                })?;
+                Reading::Outside
+            }
+            Reading::Named(start, close) => {
+                formats.push(Format {
+                    text: between(text, start, end),
+                    name: Some(between(text, start.saturating_add(2), close)),
+                    letter: Letter::of(dialect, c),
+                })?;
+                Reading::Outside
+            }
+        };
+    }
+    if let Reading::Name(start) | Reading::Named(start, _) = reading {
+        formats.push(Format {
+            text: between(text, start, text.len()),
+            name: None,
+            letter: Letter::Unknown,
+        })?;
+    }
+    Ok(formats)
+}
+
+/// A field of `format` without its conversion.
+fn unconverted(dialect: Dialect, field: &str) -> &str {
+    match dialect {
+        Dialect::Core => field,
+        Dialect::Extended => match field.len().checked_sub(2) {
+            Some(end) if field.ends_with("!r") || field.ends_with("!s") => between(field, 0, end),
+            _ => field,
+        },
+    }
 }
 
 /// The fields of a format for `format`, without their braces, in order.
@@ -81,36 +161,98 @@ impl<'w, 'a, 't> Look<'w, 'a, 't> {
         }
     }
 
-    /// `%` and a letter that gets no value, or does not take the one that it gets.
-    fn letter(&mut self, letter: char, value: Option<Value>) -> Result<Option<Found>, AllocError> {
-        let field = Text::of(format!(in self.alloc; "%{letter}")?)?;
+    /// A format that gets no value, or does not take the one that it gets.
+    fn misfit(&mut self, format: &str, value: Option<Value>) -> Result<Option<Found>, AllocError> {
+        let field = Text::new(self.alloc, format)?;
         let value = self.maybe_shown(value)?;
         self.found(&[], About::Field { field, value })
     }
 
-    /// `format % values`: the first letter that gets no value, is not known, or does not take its value; `None` if there
+    /// Whether a value is a character: a string of one, or the number of one.
+    fn is_character(&self, value: Value) -> Result<bool, AllocError> {
+        match self.machine.int_of(self.world.setting(), value) {
+            Some(int) => Ok(char_of(int).is_some()),
+            None => match self.string(Some(value))? {
+                Some(text) => Ok(only_char(text.as_str()).is_some()),
+                None => Ok(false),
+            },
+        }
+    }
+
+    /// Whether a value suits a letter.
+    fn suits(&self, letter: Letter, value: Value) -> Result<bool, AllocError> {
+        match letter {
+            Letter::Int => Ok(matches!(self.kind(value), Kind::Number(_))),
+            Letter::Character => self.is_character(value),
+            _ => Ok(true),
+        }
+    }
+
+    /// The value that a format takes: the one under its name, or the n-th of those that are put in.
+    fn taken(
+        &self,
+        format: Format<'_>,
+        values: Value,
+        n: usize,
+    ) -> Result<Option<Value>, AllocError> {
+        match format.name {
+            Some(name) => {
+                let name = Text::new(self.alloc, name)?;
+                Ok(self.machine.text_value(self.world.setting(), values, &name))
+            }
+            None => Ok(self.put_in(values, n)),
+        }
+    }
+
+    /// A format that is at fault: it is not known, gets no value, or does not take its value.
+    fn format(
+        &mut self,
+        format: Format<'_>,
+        values: Value,
+        n: usize,
+    ) -> Result<Option<Found>, AllocError> {
+        let is_known = match (format.letter, format.name) {
+            (Letter::Unknown, _) | (Letter::Sign, Some(_)) => false,
+            (Letter::Sign, None) => return Ok(None),
+            _ => true,
+        };
+        if !is_known {
+            return self.misfit(format.text, None);
+        }
+        if let (Some(name), false) = (format.name, matches!(self.kind(values), Kind::Dict)) {
+            let field = format!(in self.alloc; "%({name})")?;
+            return self.misfit(field.as_str(), Some(values));
+        }
+        let Some(value) = self.taken(format, values, n)? else {
+            return self.misfit(format.text, None);
+        };
+        if self.suits(format.letter, value)? {
+            return Ok(None);
+        }
+        self.misfit(format.text, Some(value))
+    }
+
+    /// `format % values`: the first format that gets no value, is not known, or does not take its value; `None` if there
     /// is none, or the operands are others.
     pub(crate) fn letters(
         &mut self,
         format: Option<Value>,
         values: Option<Value>,
     ) -> Result<Option<Found>, AllocError> {
-        let (Some(format), Some(values)) = (self.string(format)?, values) else {
+        let (Some(text), Some(values)) = (self.string(format)?, values) else {
             return Ok(None);
         };
+        let dialect = self.world.setting().dialect();
         let mut next: usize = 0;
-        for letter in letters_of(self.alloc, format.as_str())? {
-            let value = self.put_in(values, next);
-            let is_int = match value {
-                Some(value) => matches!(self.kind(value), Kind::Number(_)),
-                None => false,
-            };
-            match (Letter::of(letter), value) {
-                (Letter::Sign, _) => continue,
-                (Letter::Unknown, _) | (_, None) => return self.letter(letter, None),
-                (Letter::Int, Some(_)) if !is_int => return self.letter(letter, value),
-                _ => next = next.saturating_add(1),
+        for format in formats_of(self.alloc, dialect, text.as_str())? {
+            if let Some(found) = self.format(format, values, next)? {
+                return Ok(Some(found));
             }
+            next = match (format.name, format.letter) {
+                (Some(_), _) => usize::MAX,
+                (None, Letter::Sign) => next,
+                (None, _) => next.saturating_add(1),
+            };
         }
         Ok(None)
     }
@@ -127,14 +269,16 @@ impl<'w, 'a, 't> Look<'w, 'a, 't> {
             return Ok(None);
         };
         let mut next: usize = 0;
+        let dialect = self.world.setting().dialect();
         for field in fields_of(self.alloc, format.as_str())? {
-            let is_given = if field.is_empty() {
+            let name = unconverted(dialect, field);
+            let is_given = if name.is_empty() {
                 next = next.saturating_add(1);
                 next <= given.plain.len()
             } else {
-                match field.parse::<usize>() {
+                match name.parse::<usize>() {
                     Ok(number) => number < given.plain.len(),
-                    Err(_) => given.named(field).is_some(),
+                    Err(_) => given.named(name).is_some(),
                 }
             };
             if !is_given {

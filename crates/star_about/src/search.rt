@@ -8,6 +8,7 @@ use star_machine::content::Kind;
 use star_machine::fault::EvalError;
 use star_meaning::fault::FaultCode;
 use star_meaning::site::Site;
+use star_store::names::BuiltIn;
 use star_store::values::Value;
 use star_tree::tree::Expression;
 use std::alloc::AllocError;
@@ -187,7 +188,10 @@ impl<'w, 'a, 't> Look<'w, 'a, 't> {
                 is_lack
             }
             Expression::Call { .. } => match visit.value(0) {
-                Some(callee) => is_lack && matches!(self.kind(callee), Kind::BuiltInFunction(_)),
+                Some(callee) => match self.kind(callee) {
+                    Kind::BuiltInFunction(function) => is_lack && function != BuiltIn::JsonDecode,
+                    _ => false,
+                },
                 None => false,
             },
             _ => false,

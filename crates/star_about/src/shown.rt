@@ -37,6 +37,7 @@ pub(crate) fn type_of(kind: Kind) -> Type {
         Kind::Nothing => Type::Nothing,
         Kind::Truth(_) => Type::Bool,
         Kind::Number(_) => Type::Int,
+        Kind::BuiltInFunction(function) if !function.is_function() => Type::Module,
         Kind::BuiltInFunction(_) | Kind::Method(..) => Type::BuiltIn,
         Kind::Text => Type::Text,
         Kind::Range(_) => Type::Range,

@@ -3,15 +3,12 @@ use Rattle.std.proofs.Common.{◌≡◌, ℕ, nat_eq, Bool, true, false, not, �
 use Rattle.std.proofs.lemmas.Bool.{and_parts, not-true, or_parts}
 use Rattle.std.proofs.lemmas.Bool.Decides.{nat_tests}
 use Rattle.std.specs.List.{list_all}
-use Rattle.star_store.specs.declared.values.Value.{Value}
 use Rattle.star_meaning.specs.declared.fault.FaultCode.TheVariants.{BadValue}
 use Rattle.star_meaning.specs.declared.given.Arguments.{Arguments}
-use Rattle.star_meaning.specs.Run.{State, Outcome, Done, Failed, ◌>>=◌, and_then, give, fail}
+use Rattle.star_meaning.specs.Run.{State, Done, and_then, fail}
 use Rattle.star_meaning.specs.Program.{Setting}
-use Rattle.star_meaning.specs.Values.{str}
 use Rattle.star_machine.specs.Cuts.{is_neither, begins_plainly}
-use Rattle.star_meaning.specs.Format.{Numbering, Outside, Field, Closing, formatted, field_value}
-use Rattle.star_attribute.specs.Fields.{field_text}
+use Rattle.star_meaning.specs.Format.{Numbering, Outside, Field, Closing, formatted, field_text}
 
 -- bytes outside of braces are copied
 outside_before : (w : Setting) (levels line : ℕ) (g : Arguments) (before after : List ℕ) (k : Numbering) (out : List ℕ) → list_all (is_neither 123 125) before ≡ true → formatted w levels line g (before ++ after) Outside k out ≡ formatted w levels line g after Outside k (out ++ before)
@@ -45,17 +42,9 @@ field_cut : (w : Setting) (levels line : ℕ) (g : Arguments) (t field more : Li
 field_cut w levels line g t field more b k out e h = rw e (field_before w levels line g field (b ∷ more) [] k out h)
 
 -- the end of a field
-put_text : (w : Setting) (levels line : ℕ) (g : Arguments) (more out : List ℕ) (k : Numbering) (o : Outcome (List ℕ)) → and_then o (λ t. formatted w levels line g more Outside k (out ++ t)) ≡ and_then {A = List ℕ × Numbering} (and_then o (λ t. give (t, k))) (λ r. formatted w levels line g more Outside r.1 (out ++ r.0))
-put_text w levels line g more out k (Done t s) = refl
-put_text w levels line g more out k (Failed f lines) = refl
-
-put_value : (w : Setting) (levels line : ℕ) (g : Arguments) (more out : List ℕ) (o : Outcome (Value × Numbering)) → and_then o (λ r. str w levels line r.0 >>= λ t. formatted w levels line g more Outside r.1 (out ++ t)) ≡ and_then {A = List ℕ × Numbering} (and_then o (λ r. str w levels line r.0 >>= λ t. give (t, r.1))) (λ r. formatted w levels line g more Outside r.1 (out ++ r.0))
-put_value w levels line g more out (Done r s) = put_text w levels line g more out r.1 (str w levels line r.0 s)
-put_value w levels line g more out (Failed f lines) = refl
-
 pub field_closed : (w : Setting) (levels line : ℕ) (g : Arguments) (t field more : List ℕ) (b : ℕ) (k : Numbering) (out : List ℕ) (s : State) → t ≡ field ++ b ∷ more → list_all (is_neither 123 125) field ≡ true → b ≡ 125 → formatted w levels line g t (Field []) k out s ≡ and_then (field_text w levels line g field k s) (λ r. formatted w levels line g more Outside r.1 (out ++ r.0))
 field_closed w levels line g t field more b k out s e h j =
-    ap (λ f. f s) (field_cut w levels line g t field more b k out e h) ∙ rw j (put_value w levels line g more out (field_value line g field k s))
+    ap (λ f. f s) (field_cut w levels line g t field more b k out e h) ∙ rw j refl
 
 -- the brace that is not the other one
 other_one : (p q : Bool) → not (p || q) ≡ false → q ≡ false → p ≡ true

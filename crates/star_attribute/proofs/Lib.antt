@@ -1,3 +1,5 @@
 mod Braces
+mod Converted
+mod Ends
 mod Once
 mod Places

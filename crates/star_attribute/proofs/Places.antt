@@ -4,7 +4,7 @@ use Rattle.std.proofs.Math.Seq.{drop-cons}
 use Rattle.std.proofs.lemmas.List.{drop_all}
 use Rattle.std.proofs.lemmas.Option.{slice_get_past}
 use Rattle.star_store.specs.declared.values.Value.{Value}
-use Rattle.star_meaning.specs.BuiltIns.{number_from}
+use Rattle.star_meaning.specs.Spelling.{number_from}
 
 -- more digits make no smaller number
 number_grows : (n : ℕ) (bs : List ℕ) → n ≤ number_from n bs

@@ -1,12 +1,9 @@
 -- The fields of `format`, by the next place and by number.
 use Rattle.std.specs.Prelude.{ℕ, List}
 use Rattle.star_store.specs.declared.values.Value.{Value}
-use Rattle.star_meaning.specs.declared.given.Arguments.{Arguments}
-use Rattle.star_meaning.specs.Run.{Action, ◌>>=◌, give}
-use Rattle.star_meaning.specs.Program.{Setting}
-use Rattle.star_meaning.specs.Values.{str}
-use Rattle.star_meaning.specs.Format.{Numbering, Unused, Automatic, ByNumber, next_place, numbered_place, placed_value, field_value}
-use Rattle.star_meaning.specs.BuiltIns.{number_from}
+use Rattle.star_meaning.specs.Run.{Action, ◌>>=◌}
+use Rattle.star_meaning.specs.Format.{Numbering, Unused, Automatic, ByNumber, next_place, numbered_place, placed_value}
+use Rattle.star_meaning.specs.Spelling.{number_from}
 use Rattle.star_attribute.specs.declared.fields.Numbering.{Numbering as Counting}
 use Rattle.star_attribute.specs.declared.fields.Numbering.TheVariants as counting
 
@@ -30,7 +27,3 @@ next_value line xs k = next_place line k >>= placed_value line xs
 -- the value at the place that digits write
 abbrev pub numbered_value : ℕ → List Value → List ℕ → Numbering → Action (Value × Numbering)
 numbered_value line xs f k = numbered_place line (number_from 0 f) k >>= placed_value line xs
-
--- the `str` of the value of a field
-abbrev pub field_text : Setting → ℕ → ℕ → Arguments → List ℕ → Numbering → Action (List ℕ × Numbering)
-field_text w levels line g f k = field_value line g f k >>= λ r. str w levels line r.0 >>= λ t. give (t, r.1)

@@ -1,15 +1,18 @@
-//! `x.m`: the attributes of a value, by name: the fields of a struct, and the methods of each type.
+//! `x.m`: the attributes of a value, by name: the fields of a struct, the members of `json`, and the methods of each
+//! type.
 
 ghost use Rattle.std.specs.Prelude.{◌≡◌, IfOk, None, OnOk, map};
 ghost use Rattle.std.specs.List.{find};
 ghost use Rattle.std.specs.Option.{option_map};
-ghost use Rattle.star_attribute.specs.Attributes.{attribute_of, shown_names};
+ghost use Rattle.star_attribute.specs.Attributes.{attribute_of, shown_members, shown_names};
 ghost use Rattle.star_machine.specs.Refines.{Refines};
 ghost use Rattle.star_meaning.specs.Attributes as spec;
 ghost use Rattle.star_machine.specs.Shown.{shown};
 ghost use Rattle.star_meaning.specs.Values.{content, type_name};
 ghost use Rattle.star_outline.specs.Names.{same_name};
+ghost use Rattle.star_store.specs.Fields as fields;
 ghost use Rattle.star_store.specs.Names.{method_name};
+ghost use Rattle.star_store.specs.Store.{global_of};
 
 use star_dialect::Dialect;
 use star_machine::content::Content;
@@ -17,7 +20,7 @@ use star_machine::fault::{EvalError, fault_at};
 use star_machine::machine::Machine;
 use star_machine::setting::Setting;
 use star_meaning::fault::FaultCode;
-use star_store::names::Method;
+use star_store::names::{BuiltIn, Method};
 use star_store::values::{Cell, Value};
 use star_strings::table::StringMethod;
 use star_text::Text;
@@ -111,7 +114,37 @@ fn method_of(dialect: Dialect, content: Content, name: &str) -> Option<Method>
     }
 }
 
-/// An attribute: a field of a struct, or a method of the value's type.
+/// The members of `json`, in byte order of their names.
+const JSON_MEMBERS: [(&'static str, BuiltIn); 3] = [
+    ("decode", BuiltIn::JsonDecode),
+    ("encode", BuiltIn::JsonEncode),
+    ("encode_indent", BuiltIn::JsonEncodeIndent),
+];
+
+/// The members of a module.
+fn members_of(owner: BuiltIn) -> &'static [(&'static str, BuiltIn)]
+    ensures { shown_members result.now ≡ spec.members owner }
+{
+    match owner {
+        BuiltIn::Json => &JSON_MEMBERS,
+        _ => &[],
+    }
+}
+
+/// The member of a module with a name.
+fn member_of(owner: BuiltIn, name: &str) -> Option<Value>
+    ensures { result ≡ global_of name.now (spec.members owner) }
+{
+    let members = members_of(owner);
+    for member in members {
+        if member.0 == name {
+            return Some(Value::Builtin(member.1));
+        }
+    }
+    None
+}
+
+/// An attribute: a field of a struct, a member of a module, or a method of the value's type.
 #[derive(Clone, Copy)]
 pub enum Attribute {
     Field(Value),
@@ -128,13 +161,20 @@ pub fn attribute_in(dialect: Dialect, content: Content, name: &str) -> Option<At
             None => None,
         };
     }
+    if let Content::BuiltInFunction(owner) = content {
+        return match member_of(owner, name) {
+            Some(value) => Some(Attribute::Field(value)),
+            None => None,
+        };
+    }
     match method_of(dialect, content, name) {
         Some(method) => Some(Attribute::OfType(method)),
         None => None,
     }
 }
 
-/// The value of an attribute: that of a field is there; for a method 1 is paid, then it is a new bound method.
+/// The value of an attribute: that of a field or of a member is there; for a method 1 is paid, then it is a new bound
+/// method.
 pub fn attribute_value(
     machine: &mut Machine,
     line: usize,
@@ -149,8 +189,8 @@ pub fn attribute_value(
     }
 }
 
-/// `x.m`: the value of a field of a struct, or a new bound method, for which 1 is paid. `BadType` if the value has no
-/// attribute with this name.
+/// `x.m`: the value of a field of a struct, a member of `json`, or a new bound method, for which 1 is paid. `BadType` if
+/// the value has no attribute with this name.
 #[tactic(auto, unfolding(star_meaning::specs::Attributes::attribute))]
 pub fn read_attribute(
     machine: &mut Machine,
@@ -249,6 +289,18 @@ fn method_names(
     names_once(alloc, names.as_slice())
 }
 
+/// The names of the members of a module.
+fn member_names(alloc: Global, owner: BuiltIn) -> Result<Vec<&'static str>, AllocError>
+    ensures { IfOk result (λ names. shown_names names.items ≡ fields.names_of (spec.members owner)) }
+{
+    let members = members_of(owner);
+    let mut names = Vec::with_capacity(alloc, members.len())?;
+    for member in members {
+        names.push(member.0)?;
+    }
+    Ok(names)
+}
+
 /// Texts of names.
 fn texts_of(alloc: Global, names: &[&str]) -> Result<Vec<Text>, AllocError>
     ensures { IfOk result (λ texts. texts.items ≡ shown_names names.now) }
@@ -281,6 +333,10 @@ pub fn attribute_names(
 {
     if let Content::Held(Cell::Struct(fields)) = content {
         return shared(alloc, fields.get().names());
+    }
+    if let Content::BuiltInFunction(owner) = content {
+        let names = member_names(alloc, owner)?;
+        return texts_of(alloc, names.as_slice());
     }
     let names = method_names(alloc, dialect, content)?;
     texts_of(alloc, names.as_slice())

@@ -4,15 +4,16 @@
 //! A field's number may have any number of digits: reading stops at the first digit that makes it reach the number of
 //! values, so a larger one is `Index` and nothing wraps.
 
-ghost use Rattle.std.specs.Prelude.{◌≡◌, slice_get};
-ghost use Rattle.std.specs.List.{find, list_all};
+ghost use Rattle.std.specs.Prelude.{◌≡◌, ◌-◌, MatchOption, false, length, nat_eq, slice_get, take, true};
+ghost use Rattle.std.specs.List.{ends_with, find, list_all};
 ghost use Rattle.std.specs.Option.{option_map};
-ghost use Rattle.star_attribute.specs.Fields.{as_found, as_numbering, field_text, next_value, numbered_value, text_and_numbering};
-ghost use Rattle.star_meaning.specs.BuiltIns.{is_digit, number_from};
+ghost use Rattle.star_attribute.specs.Fields.{as_found, as_numbering, next_value, numbered_value, text_and_numbering};
+ghost use Rattle.star_meaning.specs.Spelling.{is_digit, number_from};
 ghost use Rattle.star_meaning.specs.Format as spec;
-ghost use Rattle.star_machine.specs.Refines.{RefinesBy};
+ghost use Rattle.star_machine.specs.Refines.{Refines, RefinesBy};
 ghost use Rattle.star_outline.specs.Names.{same_name};
 
+use star_dialect::Dialect;
 use star_machine::fault::{EvalError, fault_at};
 use star_machine::machine::Machine;
 use star_machine::setting::Setting;
@@ -202,7 +203,59 @@ fn field_value(
     Err(fault_at(FaultCode::BadValue, line))
 }
 
-/// The `str` of the value of a field, a draft in which at most about `room` bytes of long strings are copied, and how
+/// The part of a field before its end; `None` if it does not end so.
+fn before_end<'f>(field: &'f str, end: &str) -> Option<&'f str>
+    ensures { MatchOption result (ends_with nat_eq field.now end.now ≡ false)
+        (λ x. (ends_with nat_eq field.now end.now ≡ true)
+        × (x.now ≡ take (length field.now - length end.now) field.now)) }
+{
+    field.strip_suffix(end)
+}
+
+/// A field without a conversion at its end, and whether that is `!r`.
+fn conversion_at_end(field: &str) -> (&str, bool)
+    ensures field { result.0.now ≡ (spec.conversion Dialect.Extended field.now).0 }
+    ensures by_repr { result.1 ≡ (spec.conversion Dialect.Extended field.now).1 }
+{
+    if let Some(before) = before_end(field, "!r") {
+        return (before, true);
+    }
+    if let Some(before) = before_end(field, "!s") {
+        return (before, false);
+    }
+    (field, false)
+}
+
+/// A field without its conversion, and whether its text is `repr`.
+fn conversion(dialect: Dialect, field: &str) -> (&str, bool)
+    ensures field { result.0.now ≡ (spec.conversion dialect field.now).0 }
+    ensures by_repr { result.1 ≡ (spec.conversion dialect field.now).1 }
+{
+    match dialect {
+        Dialect::Core => (field, false),
+        Dialect::Extended => conversion_at_end(field),
+    }
+}
+
+/// The text of a value: its `repr`, or its `str`.
+fn text_by(
+    machine: &mut Machine,
+    setting: &Setting,
+    levels: u32,
+    line: usize,
+    by_repr: bool,
+    value: Value,
+    room: usize,
+) -> Result<Draft, EvalError>
+    ensures { Refines (spec.text_by setting.now levels line by_repr value machine.old) result machine.new }
+{
+    if by_repr {
+        return machine.repr(setting, levels, line, value, room);
+    }
+    machine.str(setting, levels, line, value, room)
+}
+
+/// The text of the value of a field, a draft in which at most about `room` bytes of long strings are copied, and how
 /// fields find their values from then on. The faults are those of the field and of the text.
 pub fn field_text(
     machine: &mut Machine,
@@ -215,10 +268,11 @@ pub fn field_text(
     room: usize,
 ) -> Result<(Draft, Numbering), EvalError>
     ensures { RefinesBy text_and_numbering
-        (field_text setting.now levels line given.now field.now (as_numbering numbering) machine.old)
+        (spec.field_text setting.now levels line given.now field.now (as_numbering numbering) machine.old)
         result machine.new }
 {
+    let (field, by_repr) = conversion(setting.dialect(), field);
     let (value, numbering) = field_value(machine, line, given, field, numbering)?;
-    let text = machine.str(setting, levels, line, value, room)?;
+    let text = text_by(machine, setting, levels, line, by_repr, value, room)?;
     Ok((text, numbering))
 }

@@ -1,6 +1,7 @@
 //! Attributes: `x.m`, a call of a bound method, and the method `format`.
 //!
-//! - `attributes` has the fields of structs and the methods of each type by name: `read_attribute` looks one up.
+//! - `attributes` has the fields of structs, the members of `json` and the methods of each type by name:
+//!   `read_attribute` looks one up.
 //! - `methods` has the `match` that calls a bound method (`run_method`, which `call_method` calls).
 //! - `formats` cuts the string of `format` at its braces, and `fields` finds the value that the text between two braces
 //!   names.

@@ -4,7 +4,7 @@ use Rattle.std.proofs.Common.{ℕ, List, Option, Some, None}
 use Rattle.star_meaning.specs.Program.{Setting}
 use Rattle.star_meaning.specs.declared.given.Arguments.{Arguments}
 use Rattle.star_meaning.specs.Attributes.{Attribute, Field, OfType, attribute, attribute_or, attribute_value, call_dir, call_getattr, call_hasattr}
-use Rattle.star_meaning.specs.Characters.{call_chr, call_ord}
+use Rattle.star_meaning.specs.Characters.{call_chr, call_hash, call_ord}
 use Rattle.star_meaning.specs.Structs.{call_struct, new_struct}
 use Rattle.star_bound.proofs.Within.{Bounded}
 use Rattle.star_bound.proofs.Bounds.{bounded}
@@ -37,6 +37,9 @@ bounded-call_ord w line g = search (bounded, bounded-want_text, bounded-position
 
 pub bounded-call_chr : (w : Setting) (line : ℕ) (g : Arguments) → Bounded (call_chr w line g)
 bounded-call_chr w line g = search (bounded, bounded-want_int, bounded-new_text, bounded-positional, bounded-only_one) depth 14
+
+pub bounded-call_hash : (w : Setting) (line : ℕ) (g : Arguments) → Bounded (call_hash w line g)
+bounded-call_hash w line g = search (bounded, bounded-want_text, bounded-positional, bounded-only_one) depth 14
 
 pub bounded-new_struct : (line : ℕ) (fs : List (List ℕ × Value)) → Bounded (new_struct line fs)
 bounded-new_struct line fs = search bounded depth 14

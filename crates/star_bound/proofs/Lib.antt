@@ -7,6 +7,7 @@ pub mod BoundSubscript
 pub mod BoundArguments
 pub mod BoundAttributes
 pub mod BoundPairs
+pub mod BoundJson
 pub mod BoundListMethods
 pub mod BoundDictMethods
 pub mod BoundOrders
@@ -34,6 +35,7 @@ pub mod NarrowSubscript
 pub mod NarrowArguments
 pub mod NarrowAttributes
 pub mod NarrowPairs
+pub mod NarrowJson
 pub mod NarrowListMethods
 pub mod NarrowDictMethods
 pub mod NarrowOrders

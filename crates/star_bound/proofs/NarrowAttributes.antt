@@ -4,7 +4,7 @@ use Rattle.std.proofs.Common.{ℕ, List, Option, Some, None}
 use Rattle.star_meaning.specs.Program.{Setting}
 use Rattle.star_meaning.specs.declared.given.Arguments.{Arguments}
 use Rattle.star_meaning.specs.Attributes.{Attribute, Field, OfType, attribute, attribute_or, attribute_value, call_dir, call_getattr, call_hasattr}
-use Rattle.star_meaning.specs.Characters.{call_chr, call_ord}
+use Rattle.star_meaning.specs.Characters.{call_chr, call_hash, call_ord}
 use Rattle.star_meaning.specs.Structs.{call_struct, new_struct}
 use Rattle.star_bound.proofs.Narrow.{narrow, Narrows}
 use Rattle.star_bound.proofs.NarrowValues.{narrow-with_content, narrow-want_int, narrow-want_text, narrow-new_text, narrow-new_list}
@@ -36,6 +36,9 @@ narrow-call_ord w line g = search (narrow, narrow-want_text, narrow-positional, 
 
 pub narrow-call_chr : {most : ℕ} → (w : Setting) (line : ℕ) (g : Arguments) → Narrows most (call_chr w line g)
 narrow-call_chr w line g = search (narrow, narrow-want_int, narrow-new_text, narrow-positional, narrow-only_one) depth 14
+
+pub narrow-call_hash : {most : ℕ} → (w : Setting) (line : ℕ) (g : Arguments) → Narrows most (call_hash w line g)
+narrow-call_hash w line g = search (narrow, narrow-want_text, narrow-positional, narrow-only_one) depth 14
 
 pub narrow-new_struct : {most : ℕ} → (line : ℕ) (fs : List (List ℕ × Value)) → Narrows most (new_struct line fs)
 narrow-new_struct line fs = search narrow depth 14

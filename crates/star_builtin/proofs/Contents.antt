@@ -14,7 +14,7 @@ use Rattle.star_meaning.specs.Program.{Setting}
 use Rattle.star_meaning.specs.Values.{Content, Nothing, Truth, Number, BuiltInFunction, Held, Nowhere, content}
 use Rattle.star_machine.specs.Kinds.{bytes_of}
 use Rattle.star_meaning.specs.Orders.{is_int, is_text, can_sort, is_before}
-use Rattle.star_meaning.specs.Sorting.{placed, in_order}
+use Rattle.star_store.specs.Sorting.{placed, in_order}
 use Rattle.star_builtin.specs.Orders.{int_in, by_contents}
 
 both : (a b : Bool) → (a && b) ≡ true → (a ≡ true) × (b ≡ true)

@@ -1,7 +1,7 @@
 -- The numbers that digits write.
 use Rattle.std.proofs.Common.{◌≡◌, ℕ, ◌+◌, ◌-◌, ◌*◌, ◌^◌, ◌≤◌, ◌<◌, List, [], ◌∷◌, length, drop, get_or, add-one, refl, sym, ap, ◌∙◌, arith}
 use Rattle.std.proofs.Math.Seq.{drop-cons}
-use Rattle.star_meaning.specs.BuiltIns.{number_from}
+use Rattle.star_meaning.specs.Spelling.{number_from}
 use Rattle.star_builtin.specs.Parts.{capped}
 
 -- more digits make no smaller number

@@ -9,7 +9,7 @@ use Rattle.star_store.specs.declared.values.Value.{Value}
 use Rattle.star_meaning.specs.Run.{State}
 use Rattle.star_meaning.specs.Values.{Content, content}
 use Rattle.star_meaning.specs.Orders.{is_int, is_text, can_sort, is_before_by, sorted_free}
-use Rattle.star_meaning.specs.Sorting.{in_order}
+use Rattle.star_store.specs.Sorting.{in_order}
 use Rattle.star_machine.specs.Kinds.{bytes_of}
 use Rattle.star_meaning.specs.Program.{Setting}
 use Rattle.star_builtin.specs.Orders.{by_contents, by_keys, int_in, turned_by}

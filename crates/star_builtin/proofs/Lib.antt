@@ -1,9 +1,10 @@
 pub mod Contents
+pub mod Decoded
 pub mod Digits
 pub mod Fields
+pub mod Held
 pub mod Keyed
 pub mod Loops
 pub mod Merging
-pub mod Only
+pub mod NewNames
 pub mod Pairs
-pub mod Sorting

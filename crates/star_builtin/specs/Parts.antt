@@ -1,10 +1,12 @@
 -- The built-in functions after their arguments have been unpacked.
-use Rattle.std.specs.Prelude.{ℕ, ◌+◌, ◌^◌, min, List, [], ◌∷◌, length, ℤ, pos}
+use Rattle.std.specs.Prelude.{ℕ, ◌+◌, ◌^◌, min, not, List, [], ◌∷◌, length, ℤ, pos}
+use Rattle.std.specs.List.{list_any}
 use Rattle.star_store.specs.declared.values.Value.{Value}
+use Rattle.star_outline.specs.Names.{same_name}
 use Rattle.star_meaning.specs.declared.fault.FaultCode.TheVariants as code
-use Rattle.star_meaning.specs.Run.{Action, ◌>>=◌, pay, check, found, each, add_line}
+use Rattle.star_meaning.specs.Run.{Action, ◌>>=◌, give, pay, check, found, each, add_line}
 use Rattle.star_meaning.specs.Program.{Setting}
-use Rattle.star_meaning.specs.Values.{with_content, want_int, new_int, new_tuple, str}
+use Rattle.star_meaning.specs.Values.{with_content, want_int, new_int, new_text, new_tuple, str}
 use Rattle.star_meaning.specs.BuiltIns.{length_in, range_of, is_range_count, joined}
 
 -- the length of a value
@@ -19,6 +21,11 @@ range_from w line xs =
 -- the tuple of a number and an item
 abbrev pub numbered_item : ℕ → ℤ → Value → Action Value
 numbered_item line z x = new_int line z >>= λ n. new_tuple line (n ∷ x ∷ [])
+
+-- a name as a new string, unless it is among those before it
+abbrev pub new_name : ℕ → List (List ℕ) → List ℕ → Action Value
+new_name line before name =
+    new_text line name >>= λ k. check code.Key line (not (list_any (same_name name) before)) >>= λ _. give k
 
 -- the line of some values
 abbrev pub said : Setting → ℕ → ℕ → List ℕ → List Value → Action (Unit {0})

@@ -4,10 +4,13 @@ ghost use Rattle.star_meaning.specs.BuiltIns.{call_built_in};
 ghost use Rattle.star_machine.specs.Refines.{Refines};
 
 use crate::attributes::{call_dir, call_getattr, call_hasattr};
+use crate::bases::call_int;
 use crate::best::{Best, call_best};
-use crate::characters::{call_chr, call_ord};
+use crate::characters::{call_chr, call_hash, call_ord};
+use crate::decoding::call_decode;
 use crate::dicts::call_dict;
-use crate::numbers::{call_abs, call_int, call_len};
+use crate::encoding::{call_encode, call_encode_indent};
+use crate::numbers::{call_abs, call_len};
 use crate::print::{Form, call_fail, call_print, call_text, call_type};
 use crate::ranges::call_range;
 use crate::rows::{Row, call_enumerate, call_reversed, call_row, call_zip};
@@ -15,14 +18,16 @@ use crate::sorted::call_sorted;
 use crate::structs::call_struct;
 use crate::truths::{call_all, call_any, call_bool};
 use star_machine::call::Call;
-use star_machine::fault::EvalError;
+use star_machine::fault::{EvalError, fault_at};
 use star_machine::machine::Machine;
 use star_machine::setting::Setting;
+use star_meaning::fault::FaultCode;
 use star_meaning::given::Arguments;
 use star_store::names::BuiltIn;
 use star_store::values::Value;
 
-/// Runs a built-in function for a call of it. The faults are those of the function with that name.
+/// Runs a built-in function for a call of it. The faults are those of the function with that name. A module, which is no
+/// callee, is `BadType`.
 #[tactic(auto, unfolding(star_meaning::specs::BuiltIns::call_built_in))]
 fn run_built_in(machine: &mut Machine, built_in: BuiltIn, call: &Call) -> Result<Value, EvalError>
     ensures { Refines (call_built_in call.now.setting.now call.now.levels call.now.line built_in call.now.given.now
@@ -54,8 +59,13 @@ fn run_built_in(machine: &mut Machine, built_in: BuiltIn, call: &Call) -> Result
         BuiltIn::Dir => call_dir(machine, call),
         BuiltIn::Getattr => call_getattr(machine, call),
         BuiltIn::Hasattr => call_hasattr(machine, call),
+        BuiltIn::Hash => call_hash(machine, call),
+        BuiltIn::Json => Err(fault_at(FaultCode::BadType, call.line)),
         BuiltIn::Ord => call_ord(machine, call),
         BuiltIn::Struct => call_struct(machine, call),
+        BuiltIn::JsonDecode => call_decode(machine, call),
+        BuiltIn::JsonEncode => call_encode(machine, call),
+        BuiltIn::JsonEncodeIndent => call_encode_indent(machine, call),
     }
 }
 

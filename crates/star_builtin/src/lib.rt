@@ -13,10 +13,13 @@
 #![tactic(auto)]
 
 pub mod attributes;
+pub mod bases;
 pub mod best;
 pub mod calls;
 pub mod characters;
+pub mod decoding;
 pub mod dicts;
+pub mod encoding;
 mod ints;
 pub mod numbers;
 pub mod orders;

@@ -1,4 +1,4 @@
-//! `abs`, `int` and `len`.
+//! `abs`, `len`, and the int that a value is for `int`.
 
 ghost use Rattle.std.specs.Prelude.{◌≡◌, unsigned_abs};
 ghost use Rattle.star_meaning.specs.BuiltIns as spec;
@@ -25,7 +25,7 @@ fn absolute(machine: &Machine, line: usize, int: i64) -> Result<Value, EvalError
 
 /// The int of a content: an int itself, a bool as 1 or 0, or the int that a string spells. `BadValue` for a string that
 /// spells no int, `Overflow` for one outside 64 bits, `BadType` for another content.
-fn to_int(machine: &Machine, line: usize, content: Content) -> Result<Value, EvalError>
+pub(crate) fn to_int(machine: &Machine, line: usize, content: Content) -> Result<Value, EvalError>
     ensures { Refines (spec.to_int line (shown content.entry) machine.now) result machine.now }
 {
     match content {
@@ -73,17 +73,6 @@ pub fn call_abs(machine: &Machine, call: &Call) -> Result<Value, EvalError>
     let value = call.only_one(machine)?;
     let int = machine.want_int(call.setting, call.line, value)?;
     absolute(machine, call.line, int)
-}
-
-/// `int(x)`: an int, a bool as 1 or 0, or the int that a string of an optional sign and decimal digits spells. `Args`
-/// for another number of values and for a keyword argument, `BadType` for another value, `BadValue` for another string,
-/// `Overflow` outside 64 bits.
-pub fn call_int(machine: &Machine, call: &Call) -> Result<Value, EvalError>
-    ensures { Refines (spec.call_int call.now.setting.now call.now.line call.now.given.now machine.now)
-        result machine.now }
-{
-    let value = call.only_one(machine)?;
-    to_int(machine, call.line, machine.content(call.setting, value))
 }
 
 /// `len(x)`: the bytes of a string, or the items of an iterable. `Args` for another number of values and for a name,

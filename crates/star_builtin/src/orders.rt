@@ -54,7 +54,7 @@ pub struct Candidates {
 }
 
 /// The keyword argument with this name: the first one.
-fn value_named(name: &str, named: &[KeywordArgument]) -> Option<Value>
+pub(crate) fn value_named(name: &str, named: &[KeywordArgument]) -> Option<Value>
     ensures { result ≡ value_named name.now named.now }
 {
     for value in named {
@@ -114,9 +114,13 @@ fn want_key(
     };
     match machine.content(setting, key) {
         Content::Nothing => Ok(None),
-        Content::BuiltInFunction(_)
-        | Content::Held(Cell::Func(_))
-        | Content::Held(Cell::Bound(_, _)) => Ok(Some(key)),
+        Content::BuiltInFunction(function) => {
+            if !function.is_function() {
+                return Err(fault_at(FaultCode::BadType, line));
+            }
+            Ok(Some(key))
+        }
+        Content::Held(Cell::Func(_)) | Content::Held(Cell::Bound(_, _)) => Ok(Some(key)),
         _ => Err(fault_at(FaultCode::BadType, line)),
     }
 }

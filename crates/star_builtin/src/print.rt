@@ -89,7 +89,13 @@ fn type_name(content: Content) -> &'static str
         Content::Nothing => "NoneType",
         Content::Truth(_) => "bool",
         Content::Number(_) => "int",
-        Content::BuiltInFunction(_) => "builtin_function_or_method",
+        Content::BuiltInFunction(function) => {
+            if function.is_function() {
+                "builtin_function_or_method"
+            } else {
+                "module"
+            }
+        }
         Content::Held(Cell::Text(_)) => "string",
         Content::Held(Cell::Range(_)) => "range",
         Content::Held(Cell::Tuple(_)) => "tuple",

@@ -8,7 +8,7 @@ ghost use Rattle.std.specs.Prelude.{◌≡◌, IfOk, map, true};
 ghost use Rattle.std.specs.List.{list_all};
 ghost use Rattle.star_meaning.specs.BuiltIns as spec;
 ghost use Rattle.star_meaning.specs.Orders as orders;
-ghost use Rattle.star_meaning.specs.Sorting as sorting;
+ghost use Rattle.star_store.specs.Sorting as sorting;
 ghost use Rattle.star_machine.specs.Refines.{Refines};
 ghost use Rattle.star_meaning.specs.Values.{content};
 ghost use Rattle.star_builtin.specs.Orders.{by_contents, int_in};
@@ -80,6 +80,7 @@ fn int_in(machine: &Machine, setting: &Setting, value: Value) -> i64
 }
 
 /// The order of two ints, or of two strings by their bytes.
+#[inline(always)]
 pub(crate) fn order(machine: &Machine, setting: &Setting, x: Value, y: Value) -> Ordering
     ensures { result ≡ by_contents (content setting.now machine.now x) (content setting.now machine.now y) }
 {

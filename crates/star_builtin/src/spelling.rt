@@ -7,7 +7,7 @@ ghost use Rattle.std.specs.Prelude.{◌≡◌, ◌^◌, neg_ℤ, pos};
 ghost use Rattle.std.specs.List.{list_all};
 ghost use Rattle.std.specs.Option.{option_map};
 ghost use Rattle.star_store.specs.Arithmetic.{checked};
-ghost use Rattle.star_meaning.specs.BuiltIns as spec;
+ghost use Rattle.star_meaning.specs.Spelling as spec;
 ghost use Rattle.star_builtin.specs.Parts.{capped};
 
 use crate::ints::narrow;

@@ -1,10 +1,10 @@
 //! `struct`, of the extended language.
 
 ghost use Rattle.std.specs.Prelude.{◌≡◌, ◌<◌, ◌^◌, IfOk};
-ghost use Rattle.star_meaning.specs.Sorting.{in_order};
+ghost use Rattle.star_store.specs.Sorting.{in_order};
 ghost use Rattle.star_meaning.specs.Structs as spec;
 ghost use Rattle.star_machine.specs.Refines.{Refines};
-ghost use Rattle.star_store.specs.Fields.{names_of, risen, values_of};
+ghost use Rattle.star_store.specs.Fields.{is_before, names_of, risen, values_of};
 
 use sqlite_items::Boxed;
 use star_machine::call::Call;
@@ -30,7 +30,7 @@ fn given_fields(alloc: Global, named: &[KeywordArgument]) -> Result<Vec<(Text, V
 
 /// Fields in byte order of their names.
 fn in_order(fields: Vec<(Text, Value)>) -> Result<Vec<(Text, Value)>, AllocError>
-    ensures { IfOk result (λ sorted. sorted.items ≡ in_order spec.is_before fields.items) }
+    ensures { IfOk result (λ sorted. sorted.items ≡ in_order is_before fields.items) }
 {
     let mut fields = fields;
     fields.sort_by(|x, y| x.0.as_str().cmp(y.0.as_str()))?;
@@ -67,7 +67,7 @@ fn apart(alloc: Global, fields: &[(Text, Value)]) -> Result<(Vec<Text>, Vec<Valu
 /// failed.
 #[tactic(auto, using(crate::proofs::Fields::names_beside))]
 fn fields_of(alloc: Global, named: &[KeywordArgument]) -> Result<Option<Fields>, AllocError>
-    ensures { IfOk result (λ made. made ≡ risen (in_order spec.is_before (spec.given_fields named.now))) }
+    ensures { IfOk result (λ made. made ≡ risen (in_order is_before (spec.given_fields named.now))) }
 {
     let fields = in_order(given_fields(alloc, named)?)?;
     let (names, values) = apart(alloc, fields.as_slice())?;

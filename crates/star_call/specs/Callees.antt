@@ -4,6 +4,7 @@ use Rattle.std.specs.Option.{option_and_then, option_map}
 use Rattle.star_store.specs.declared.values.Value.{Value}
 use Rattle.star_store.specs.declared.values.Cell.TheVariants as cell
 use Rattle.star_store.specs.declared.values.Function.{Function}
+use Rattle.star_store.specs.Names.{is_function}
 use Rattle.star_outline.specs.Definitions.{Definition, definition_of}
 use Rattle.star_outline.specs.declared.outline.Definition.{Definition as HeldDefinition}
 use Rattle.star_tree.specs.declared.tree.Name.{Name}
@@ -79,7 +80,7 @@ IsFound w (held.AMethod m v) = Unit {0}
 -- the callee that a value is, if this is the definition of a function, if it has one
 abbrev pub callee_in : ℕ → Option Definition → Content → Action Callee
 callee_in line d (Held (cell.Func f)) = with_definition line f d
-callee_in line d (BuiltInFunction b) = give (ABuiltIn b)
+callee_in line d (BuiltInFunction b) = check code.BadType line (is_function b) >>= λ _. give (ABuiltIn b)
 callee_in line d (Held (cell.Bound m x)) = give (AMethod m x)
 callee_in line d _ = fail code.BadType line
 

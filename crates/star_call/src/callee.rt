@@ -135,7 +135,12 @@ impl<'t> Callee<'t> {
             → IfOk result (IsFound setting.now) }
     {
         match machine.content(setting, value) {
-            Content::BuiltInFunction(function) => Ok(Callee::ABuiltIn(function)),
+            Content::BuiltInFunction(function) => {
+                if !function.is_function() {
+                    return Err(fault_at(FaultCode::BadType, line));
+                }
+                Ok(Callee::ABuiltIn(function))
+            }
             Content::Held(Cell::Func(function)) => function_callee(
                 machine,
                 line,

@@ -27,7 +27,7 @@ is_less Equal h = absurd (let no : ⊥ = cc in no)
 is_less Greater h = absurd (let no : ⊥ = cc in no)
 
 -- a name below those of fields comes before their members
-put_first : (f : Value → Option Data) (n : List ℕ) (d : Data) (left : List (List ℕ × Value)) (ms : Members) → rises (n ∷ names_of left) ≡ true → fields_data f left ≡ Some ms → put n d ms ≡ member n d ms
+pub put_first : (f : Value → Option Data) (n : List ℕ) (d : Data) (left : List (List ℕ × Value)) (ms : Members) → rises (n ∷ names_of left) ≡ true → fields_data f left ≡ Some ms → put n d ms ≡ member n d ms
 put_first f n d [] ms r e = let same : no_members ≡ ms = cc in subst (λ z. put n d z ≡ member n d z) same refl
 put_first f n d (x ∷ left) ms r e =
     let k = chained (λ k. option_and_then (λ c. option_map (put k c) (fields_data f left)) (f x.1)) (utf8_of x.0) ms e in

@@ -9,6 +9,7 @@ pub mod Ints
 pub mod Strings
 pub mod Rising
 mod Equal
+mod OneJson
 mod Back
 mod Reading
 mod Size

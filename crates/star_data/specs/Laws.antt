@@ -1,13 +1,17 @@
 -- Laws of values as data.
-use Rattle.std.specs.Prelude.{◌≡◌, ◌≤◌, ◌*◌, ℕ, suc, true, List, [], Option, Some, length, slice_get}
+use Rattle.std.specs.Prelude.{◌≡◌, ◌≤◌, ◌*◌, ◌++◌, ◌⊎◌, ℕ, suc, true, List, [], Option, Some, length, slice_get}
 use Rattle.serde_json.specs.Data.{Data, depth}
 use Rattle.serde_json.specs.Read.{max_depth, read}
 use Rattle.serde_json.specs.Written.{compact_text}
 use Rattle.star_store.specs.declared.values.Value.{Value}
 use Rattle.star_store.specs.declared.values.Cell.{Cell}
 use Rattle.star_store.specs.declared.values.Cell.TheVariants as cell
+use Rattle.star_store.specs.declared.fault.StoreFault.TheVariants.{Deep, Steps}
+use Rattle.star_store.specs.declared.layout.Layout.TheVariants as layout
 use Rattle.star_store.specs.Equal.{same}
-use Rattle.star_store.specs.Spend.{Enough}
+use Rattle.star_store.specs.Fields.{names_of, rises}
+use Rattle.star_store.specs.Json.{json}
+use Rattle.star_store.specs.Spend.{Enough, Lacks, Spent}
 use Rattle.star_store.specs.Text.{text}
 use Rattle.star_data.specs.Data.{cell_of, data_of, text_in}
 use Rattle.star_data.specs.Parts.{IsOpaque, IsPart, StandsIn}
@@ -89,3 +93,18 @@ IsNoLonger =
     (look : Value → Option Cell) → NamesArePlain look → (levels steps left n : ℕ) (v : Value) (t : List ℕ) (d : Data)
     → text look levels [] v [] steps ≡ Enough t left → data_of look n v ≡ Some d
     → 2 * length (compact_text d) ≤ 3 * length t
+
+-- the names of all structs rise, as those of a run do
+abbrev pub NamesRise : (Value → Option Cell) → Type 0
+NamesRise look = (v : Value) (fs : List (List ℕ × Value)) → look v ≡ Some (cell.Struct fs) → rises (names_of fs) ≡ true
+
+-- this text, unless levels or steps are wanting
+abbrev pub SaysOnly : Spent (List ℕ) → List ℕ → Type 0
+SaysOnly (Enough t left) u = t ≡ u
+SaysOnly (Lacks f left) u = (f ≡ Deep) ⊎ (f ≡ Steps)
+
+-- a program that writes the JSON of a value writes the text that the report has of it, if levels and steps suffice
+abbrev pub OneJson : Type 0
+OneJson =
+    (look : Value → Option Cell) → KeysStandOnce look → NamesRise look → (levels steps n : ℕ) (v : Value) (d : Data)
+    → data_of look n v ≡ Some d → SaysOnly (json look layout.Compact levels 0 v [] steps) (compact_text d)

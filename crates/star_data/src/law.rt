@@ -1,6 +1,6 @@
 //! Laws of values as JSON: more cells and freezing keep it, equal values have the same, and it is read back.
 
-ghost use Rattle.star_data.specs.Laws.{DataIsPlain, DataStays, EqualAreSame, IsNoLonger, NoCycleIsData, OneData, PartsAreData, ReadsBack, SerdeReadsBack, TextTells};
+ghost use Rattle.star_data.specs.Laws.{DataIsPlain, DataStays, EqualAreSame, IsNoLonger, NoCycleIsData, OneData, OneJson, PartsAreData, ReadsBack, SerdeReadsBack, TextTells};
 
 /// Data stays where cells stay, and at every greater depth.
 pub fn data_stays()
@@ -51,4 +51,9 @@ pub fn text_tells()
 /// escapes.
 pub fn is_no_longer()
     ensures { IsNoLonger }
+{}
+
+/// A program that writes the JSON of a value writes the text that the report has of it, if levels and steps suffice.
+pub fn one_json()
+    ensures { OneJson }
 {}

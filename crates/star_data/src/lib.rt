@@ -16,6 +16,6 @@ pub mod data;
 mod law;
 
 pub use law::{
-    data_is_plain, data_stays, equal_are_same, is_no_longer, no_cycle_is_data, one_data,
+    data_is_plain, data_stays, equal_are_same, is_no_longer, no_cycle_is_data, one_data, one_json,
     parts_are_data, reads_back, serde_reads_back, text_tells,
 };

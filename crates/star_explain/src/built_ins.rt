@@ -85,6 +85,8 @@ const FUNCTIONS: &[(&'static str, Wanted, Wanted)] = &[
     ("chr", Wanted::Int, Wanted::Anything),
     ("getattr", Wanted::Anything, Wanted::Text),
     ("hasattr", Wanted::Anything, Wanted::Text),
+    ("hash", Wanted::Text, Wanted::Anything),
+    ("json.decode", Wanted::Text, Wanted::Anything),
     ("ord", Wanted::Text, Wanted::Anything),
 ];
 
@@ -161,10 +163,12 @@ pub(crate) fn is_extended(name: &str, receiver: Type) -> bool {
     }
 }
 
-/// The first and second argument of a built-in function, or of a method of a receiver of a type.
-pub(crate) fn wanted_by(name: &str, receiver: Option<Type>) -> (Wanted, Wanted) {
+/// The first and second argument of a built-in function, or of a method of a receiver of a type. `has_base` says that
+/// `int` is given a base.
+pub(crate) fn wanted_by(name: &str, receiver: Option<Type>, has_base: bool) -> (Wanted, Wanted) {
     match receiver {
         Some(receiver) => of_method(name, receiver),
+        None if has_base && name == "int" => (Wanted::Text, Wanted::Int),
         None => of_function(name),
     }
 }
@@ -208,7 +212,10 @@ const METHOD_COUNTS: &[(Type, &'static str, &'static str)] = &[
     (Type::Text, "upper", "no value"),
 ];
 
-fn function_count(name: &str) -> &'static str {
+fn function_count(dialect: Dialect, name: &str) -> &'static str {
+    if let (Dialect::Extended, "int") = (dialect, name) {
+        return "one value, and a base";
+    }
     for (function, count) in FUNCTION_COUNTS {
         if *function == name {
             return *count;
@@ -247,7 +254,7 @@ fn method_count(dialect: Dialect, name: &str, receiver: Type) -> &'static str {
 pub(crate) fn count(dialect: Dialect, name: &str, receiver: Option<Type>) -> &'static str {
     match receiver {
         Some(receiver) => method_count(dialect, name, receiver),
-        None => function_count(name),
+        None => function_count(dialect, name),
     }
 }
 

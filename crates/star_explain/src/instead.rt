@@ -1,5 +1,6 @@
 //! What to write in place of a method or an argument that other dialects have.
 
+use star_dialect::Dialect;
 use star_found::about::Type;
 
 /// The help for methods that are missing, by the type of their value.
@@ -87,6 +88,10 @@ const ARGUMENTS: &[(&'static str, &'static str)] = &[
     ),
     ("max", KEY),
     ("min", KEY),
+    (
+        "int",
+        "`int` reads a string in a base in the extended language: `--language extended`",
+    ),
 ];
 
 /// What to write in place of a method that a type does not have.
@@ -103,8 +108,16 @@ pub(crate) fn of_method(kind: Type, name: &str) -> Option<&'static str> {
 const SPLIT: &str =
     "the core language needs the string to split by, as in `s.split(\" \")`; `--language extended` does not";
 
-/// What to write if a built-in function or a method does not take so many arguments, or one of these names.
-pub(crate) fn of_arguments(name: &str, given: usize) -> Option<&'static str> {
+/// What to write if a built-in function or a method does not take so many arguments, or one of these names, in the core
+/// language.
+pub(crate) fn of_arguments(dialect: Dialect, name: &str, given: usize) -> Option<&'static str> {
+    match dialect {
+        Dialect::Core => of_core(name, given),
+        Dialect::Extended => None,
+    }
+}
+
+fn of_core(name: &str, given: usize) -> Option<&'static str> {
     if name == "split" && given == 0 {
         return Some(SPLIT);
     }

@@ -1,6 +1,7 @@
 //! The texts on faults whose part and values are known.
 
 use crate::built_ins::{Wanted, count, is_extended, methods, wanted_by};
+use crate::fields::{CONVERSIONS, has_conversion, is_unknown, of_format, taken_by};
 use crate::instead::{of_arguments, of_method};
 use crate::words::unquoted;
 use star_dialect::Dialect;
@@ -9,6 +10,12 @@ use star_meaning::fault::FaultCode;
 use star_mistakes::message::{Part, message, push_message};
 use star_mistakes::near::did_you_mean;
 use std::alloc::{AllocError, Global};
+
+/// What `json.encode` and `json.encode_indent` take, after the name of the function.
+const NO_JSON: &str =
+    "` takes None, bools, ints, strings, lists, tuples, structs, and dicts whose keys are strings";
+
+const IN_LINES: &str = "` takes what `json.encode` takes, and strings as `prefix` and `indent`";
 
 /// How many parameters of a function are listed.
 const LISTED: usize = 12;
@@ -58,6 +65,7 @@ fn with_article(value: &Shown) -> &'static str {
         Type::Nothing => "None",
         Type::BuiltIn => "a built-in function",
         Type::Struct => "a struct",
+        Type::Module => "a module",
         Type::Other => "a value",
     }
 }
@@ -95,9 +103,25 @@ fn unmet<'v>(wanted: Wanted, value: Option<&'v Shown>) -> Option<&'v Shown> {
     }
 }
 
-/// Whether a field is a letter after a `%` that is not known.
-fn is_letter(field: &str) -> bool {
-    field.starts_with('%') && !matches!(field, "%s" | "%r" | "%d")
+/// The help for a slice of a range in the core language.
+const RANGES: &str =
+    "the extended language slices ranges: `--language extended`; here write `range` with other bounds";
+
+/// Whether a dialect is the extended one.
+fn has_further(dialect: Dialect) -> bool {
+    match dialect {
+        Dialect::Core => false,
+        Dialect::Extended => true,
+    }
+}
+
+/// Whether a built-in function takes this name in the extended language.
+fn is_further(function: &str, name: &str) -> bool {
+    match name {
+        "key" => matches!(function, "sorted" | "max" | "min"),
+        "base" => function == "int",
+        _ => false,
+    }
 }
 
 /// The help for an item of a dictionary that is no pair.
@@ -226,15 +250,20 @@ impl<'a> Saying<'a> {
 
     /// `value[start:stop:stride]`
     fn slice(self, value: &Shown) -> Result<Option<String>, AllocError> {
-        let has_slices = matches!(
-            value.of,
-            Type::List | Type::Tuple | Type::Text | Type::Range
-        );
+        let has_slices = match value.of {
+            Type::List | Type::Tuple | Type::Text => true,
+            Type::Range => has_further(self.dialect),
+            _ => false,
+        };
         match self.code {
             FaultCode::BadValue => self.text_of(&[Part::Plain(
                 "the stride of a slice cannot be 0",
             )]),
             FaultCode::Cut => self.with_value("a slice cuts a character", value),
+            FaultCode::Overflow => self.with_value(
+                "a bound of the slice is outside 64 bits",
+                value,
+            ),
             FaultCode::BadType if has_slices => {
                 self.text_of(&[Part::Plain("the bounds of a slice have to be ints")])
             }
@@ -420,7 +449,8 @@ impl<'a> Saying<'a> {
 
     /// A wrong type in a call of a built-in function or of a method.
     fn built_in_type(self, call: BuiltInCall) -> Result<Option<String>, AllocError> {
-        let (one, two) = wanted_by(call.name, type_of(call.receiver));
+        let has_base = has_further(self.dialect) && call.given > 1;
+        let (one, two) = wanted_by(call.name, type_of(call.receiver), has_base);
         if let Some(value) = unmet(one, call.first) {
             return self.argument(call.name, one, value);
         }
@@ -437,6 +467,8 @@ impl<'a> Saying<'a> {
             "join" => "` takes strings alone",
             "dict" | "update" => "` takes a dict, or an iterable of pairs",
             "sorted" => self.ordered_items(),
+            "json.encode" => NO_JSON,
+            "json.encode_indent" => IN_LINES,
             "max" | "min" => return self.ordered(call),
             "print" | "fail" => {
                 return match call.first {
@@ -491,6 +523,10 @@ impl<'a> Saying<'a> {
             "int" => self.with_first("`int` reads no number here", first),
             "ord" => self.with_first("`ord` takes a string of one character", first),
             "chr" => self.with_first("no character has this number", first),
+            "json.decode" => self.with_first(
+                "`json.decode` takes JSON whose numbers are ints",
+                first,
+            ),
             "range" => self.with_first("the step of a `range` cannot be 0", None),
             "max" | "min" => self.of_built_in(call.name, "` of nothing", first),
             "index" | "remove" => self.with_first("no item of the list is equal", first),
@@ -558,6 +594,9 @@ impl<'a> Saying<'a> {
             (FaultCode::Index | FaultCode::Key, Some(receiver), _) => {
                 self.built_in_lack(call.name, receiver, call.first)
             }
+            (FaultCode::Key, None, Some(first)) if call.name == "json.decode" => {
+                self.with_value("a name comes twice in an object of the JSON", first)
+            }
             (FaultCode::Index | FaultCode::Key, None, _) => Ok(None),
             (_, Some(receiver), _) => self.written(receiver),
             _ => Ok(None),
@@ -600,8 +639,10 @@ impl<'a> Saying<'a> {
         value: Option<&'x Shown>,
     ) -> Result<Option<String>, AllocError> {
         match value {
-            Some(value) => self.before_typed("`", field, "` takes an int, not ", value),
-            None if is_letter(field) => self.with_word("there is no format `", field, "`"),
+            Some(value) => self.before_typed("`", field, taken_by(field), value),
+            None if is_unknown(self.dialect, field) => {
+                self.with_word("there is no format `", field, "`")
+            }
             None => self.with_word("the field `", field, "` gets no value"),
         }
     }
@@ -611,14 +652,14 @@ impl<'a> Saying<'a> {
         self.misfit_of(self.module, "` has no global `", name, "`")
     }
 
-    /// The text on an attribute that a value does not have: only a struct has others than methods.
+    /// The text on an attribute that a value does not have: a struct has fields, `json` members, and others have methods.
     fn no_attribute<'x>(
         self,
         name: &'x str,
         value: &'x Shown,
     ) -> Result<Option<String>, AllocError> {
         let text = match value.of {
-            Type::Struct => " has no attribute `",
+            Type::Struct | Type::Module => " has no attribute `",
             _ => " has no method `",
         };
         self.text_of(&[
@@ -727,14 +768,24 @@ impl<'a> Saying<'a> {
     /// The cure of arguments that do not fit.
     fn fitting(self, callee: &Shown, misfit: &Misfit) -> Result<Option<String>, AllocError> {
         if let Misfit::Unknown(word) = misfit {
-            if callee.of == Type::BuiltIn && word.as_str() == "key" {
-                return self.known(of_arguments(callee.text.as_str(), 1));
+            if callee.of == Type::BuiltIn && is_further(callee.text.as_str(), word.as_str()) {
+                if let Some(help) = of_arguments(self.dialect, callee.text.as_str(), 1) {
+                    return self.known(Some(help));
+                }
             }
             if let Some(help) = self.near(word.as_str())? {
                 return Ok(Some(help));
             }
         }
         self.parameters()
+    }
+
+    /// A help for the core language alone.
+    fn of_core(self, help: &'static str) -> Result<Option<String>, AllocError> {
+        match self.dialect {
+            Dialect::Core => self.known(Some(help)),
+            Dialect::Extended => Ok(None),
+        }
     }
 
     /// A help that is known beforehand.
@@ -747,7 +798,7 @@ impl<'a> Saying<'a> {
 
     /// The cure of an attribute that a value does not have.
     fn attribute(self, name: &str, kind: Type) -> Result<Option<String>, AllocError> {
-        if kind == Type::Struct {
+        if matches!(kind, Type::Struct | Type::Module) {
             return self.near(name);
         }
         match (of_method(kind, name), is_extended(name, kind)) {
@@ -780,8 +831,15 @@ impl<'a> Saying<'a> {
             About::Loaded(name) => self.near(name.as_str()),
             About::Attribute { name, value, .. } => self.attribute(name.as_str(), value.of),
             About::BuiltIn { name, given, .. } if self.code == FaultCode::Args => {
-                self.known(of_arguments(name.as_str(), *given))
+                self.known(of_arguments(self.dialect, name.as_str(), *given))
             }
+            About::BuiltIn {
+                name,
+                receiver: Some(receiver),
+                ..
+            } if name.as_str() == "format"
+                && self.code == FaultCode::BadValue
+                && has_conversion(receiver.text.as_str()) => { self.of_core(CONVERSIONS) }
             About::Index { at, .. } if self.code == FaultCode::Key && at.of == Type::Text => {
                 match self.near(unquoted(at.text.as_str()))? {
                     Some(help) => Ok(Some(help)),
@@ -798,10 +856,11 @@ impl<'a> Saying<'a> {
             About::Iterable { of, .. } | About::Unpacked { of, .. } if *of == Some(Type::Dict) => {
                 self.known(Some(ITEMS))
             }
-            About::Field { field, .. } if is_letter(field.as_str()) => {
-                self.known(Some("a format has `%s`, `%r`, `%d` and `%%`"))
+            About::Field { field, value: None } if is_unknown(self.dialect, field.as_str()) => {
+                self.known(Some(of_format(self.dialect, field.as_str())))
             }
             About::Field { .. } => Ok(None),
+            About::Slice { value } if value.of == Type::Range => self.of_core(RANGES),
             _ if matches!(self.code, FaultCode::Key | FaultCode::Index) => self.lacking(),
             _ => Ok(None),
         }

@@ -16,6 +16,7 @@ pub enum Type {
     Function,
     BuiltIn,
     Struct,
+    Module,
     /// Not a value that a program can have.
     Other,
 }
@@ -35,6 +36,7 @@ impl Type {
             Type::Function => "function",
             Type::BuiltIn => "builtin_function_or_method",
             Type::Struct => "struct",
+            Type::Module => "module",
             Type::Other => "value",
         }
     }

@@ -11,7 +11,7 @@ use Rattle.star_meaning.specs.Orders.{can_sort, is_before_by, precedes, sorted_f
 use Rattle.star_meaning.specs.Program.{Setting}
 use Rattle.star_meaning.specs.Run.{State, Action, Outcome, Done, Failed, and_then, give}
 use Rattle.star_meaning.specs.Semantics.{Semantics}
-use Rattle.star_meaning.specs.Sorting.{placed, in_order}
+use Rattle.star_store.specs.Sorting.{placed, in_order}
 use Rattle.star_meaning.specs.Values.{content}
 use Rattle.star_meaning.specs.declared.given.Arguments.{Arguments}
 use Rattle.star_meaning.specs.declared.site.Site.{Site}

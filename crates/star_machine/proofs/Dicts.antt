@@ -1,16 +1,17 @@
 -- Look-ups in dictionaries, as the store answers them.
-use Rattle.std.proofs.Common.{◌≡◌, ℕ, Option, Some, None, refl, ap, ◌∙◌}
+use Rattle.std.proofs.Common.{◌≡◌, ℕ, List, Option, Some, None, refl, ap, ◌∙◌}
 use Rattle.star_store.specs.declared.values.Value.{Value}
 use Rattle.star_store.specs.declared.values.Value.TheVariants as value
 use Rattle.star_store.specs.declared.values.Cell.{Cell}
 use Rattle.star_store.specs.declared.values.Cell.TheVariants as cell
 use Rattle.star_store.specs.Index.{entries_of}
 use Rattle.star_store.specs.Key.{place_of, value_of}
+use Rattle.star_store.specs.Key as keys
 use Rattle.star_store.specs.Store.{Shelf, look}
 use Rattle.star_meaning.specs.Program.{Setting, seen}
 use Rattle.star_meaning.specs.Run.{State}
 use Rattle.star_meaning.specs.Subscript.{entries_in}
-use Rattle.star_meaning.specs.Values.{content, held, place_in, value_in}
+use Rattle.star_meaning.specs.Values.{content, held, place_in, text_value, value_in}
 
 held_entries : (o : Option Cell) → entries_of o ≡ entries_in (held o)
 held_entries (Some (cell.Dict es)) = refl
@@ -45,3 +46,11 @@ value_told w m s shelf key dict r e h k =
     ∙ ap (λ (t : State). value_of (look t.store shelf) key (entries_of (look t.store shelf dict))) e
     ∙ ap (λ (sh : Shelf). value_of (look s.store sh) key (entries_of (look s.store sh dict))) h
     ∙ ap (value_of (seen w s) key) (entries_same w s dict)
+
+-- and the value of a string
+pub text_told : (w : Setting) (m s : State) (shelf : Shelf) (text : List ℕ) (dict : Value) (r : Option Value) → m ≡ s → shelf ≡ w.shelf → r ≡ keys.text_value (look m.store shelf) text (entries_of (look m.store shelf dict)) → r ≡ text_value w s text (entries_in (content w s dict))
+text_told w m s shelf text dict r e h k =
+    k
+    ∙ ap (λ (t : State). keys.text_value (look t.store shelf) text (entries_of (look t.store shelf dict))) e
+    ∙ ap (λ (sh : Shelf). keys.text_value (look s.store sh) text (entries_of (look s.store sh dict))) h
+    ∙ ap (keys.text_value (seen w s) text) (entries_same w s dict)

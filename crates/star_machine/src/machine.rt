@@ -18,7 +18,7 @@ ghost use Rattle.star_machine.specs.Shown.{shown};
 ghost use Rattle.star_machine.specs.Kinds.{bytes_of, kind_of, row_in, size_of};
 ghost use Rattle.star_machine.specs.Search.{found_place};
 ghost use Rattle.star_meaning.specs.Subscript.{entries_in};
-ghost use Rattle.star_meaning.specs.Values.{int_of, place_in, value_in, text_of, change, check_key, compare, content, count_of, equal, guard, is_true, item_in, iterate, leave, new_dict, new_int, new_list, new_text, bare, new_tuple, repr, str, take_all, take_item, take_items, want_bool, want_int, want_text};
+ghost use Rattle.star_meaning.specs.Values.{int_of, place_in, value_in, text_of, text_value, change, check_key, compare, content, count_of, encoded, equal, guard, is_true, item_in, iterate, leave, new_dict, new_int, new_list, new_text, bare, new_tuple, repr, str, take_all, take_item, take_items, want_bool, want_int, want_text};
 
 use crate::content::{Content, Kind, item_of_cell};
 use crate::fault::{EvalError, fault_at, refused};
@@ -32,9 +32,11 @@ use star_store::budget::Budget;
 use star_store::content::{KeyContent, content};
 use star_store::fault::StoreFault;
 use star_store::key::{check_key, place_of};
+use star_store::layout::Layout;
 use star_store::values::{Cell, Entries, Function, Value, Values};
 use star_text::Text;
 use star_visit::draft::Draft;
+use star_visit::encode::encode;
 use star_visit::equal::equal;
 use star_visit::order::order;
 use star_visit::text::repr;
@@ -470,6 +472,38 @@ impl Machine {
         answer.map_err(|fault| refused(fault, line))
     }
 
+    /// The JSON of a value, in a layout: a draft in which at most about `room` bytes of long strings are copied. `BadType`
+    /// for a value that has none.
+    #[tactic(auto, unfolding(star_meaning::specs::Values::encoded))]
+    pub fn encoded(
+        &mut self,
+        setting: &Setting,
+        levels: u32,
+        line: usize,
+        layout: &Layout,
+        value: Value,
+        room: usize,
+    ) -> Result<Draft, EvalError>
+        ensures answer { Refines (encoded setting.now levels line layout.now value self.old) result self.new }
+        ensures kept { self.new.store ≡ self.old.store }
+    {
+        let mut budget = Budget {
+            steps: self.steps,
+            levels,
+        };
+        let answer = encode(
+            self.alloc,
+            &self.arena,
+            setting.homes(),
+            &mut budget,
+            layout,
+            value,
+            room,
+        );
+        self.steps = budget.steps;
+        answer.map_err(|fault| refused(fault, line))
+    }
+
     /// The write guard: `BadType` unless the value is a list or dictionary, then `Frozen`, then `Iterating`.
     #[tactic(auto, unfolding(star_meaning::specs::Values::guard))]
     pub fn guard(&self, setting: &Setting, line: usize, value: Value) -> Result<(), EvalError>
@@ -794,6 +828,13 @@ impl Machine {
         ensures { result ≡ value_in setting.now self.now key (entries_in (content setting.now self.now dict)) }
     {
         self.arena.key_value(setting.homes(), dict, key)
+    }
+
+    /// The value that a dictionary has for the string of these bytes.
+    pub fn text_value(&self, setting: &Setting, dict: Value, text: &Text) -> Option<Value>
+        ensures { result ≡ text_value setting.now self.now text.now (entries_in (content setting.now self.now dict)) }
+    {
+        self.arena.text_value(setting.homes(), dict, text)
     }
 }
 

@@ -35,6 +35,7 @@ use Rattle.std.specs.Ordering.{is_gt, is_lt}
 use Rattle.std.specs.declared.cmp.Ordering.{Ordering}
 use Rattle.star_store.specs.declared.names.BuiltIn.{BuiltIn}
 use Rattle.star_store.specs.declared.names.BuiltIn.TheVariants as built_in
+use Rattle.star_store.specs.Names.{is_function}
 use Rattle.star_meaning.specs.Orders.{by_itself}
 use Rattle.star_meaning.proofs.KeepsOrders.{respects-asked_for_best, respects-asked_to_sort, respects-best_by, respects-sort_by}
 use Rattle.star_meaning.proofs.Agree.{Agree, Every, Good, agree_all_of, agree_bind, agree_block, agree_each, agree_fail, agree_frame, agree_give, agree_kept, agree_quiet, agree_such, agree_then, carries_follows, chain_carries, fit_follows, good_on}
@@ -167,9 +168,13 @@ content_is w s (value.Int n) c e = cc
 content_is w s (value.Builtin b) c e = cc
 content_is w s (value.Ref home at) c e = held_is (seen w s (value.Ref home at)) c e
 
+built_in_is : (line : ℕ) (s t : State) (b : BuiltIn) (c : Callee) (x : Bool) → (check code.BadType line x >>= λ _. give (ABuiltIn b)) s ≡ Done c t → ABuiltIn b ≡ c
+built_in_is line s t b c true e = done_is (ABuiltIn b) c s t e
+built_in_is line s t b c false e = cc
+
 content_callee : (w : Setting) (line : ℕ) (s t : State) (v : Value) (x : Content) (c : Callee) → content w s v ≡ x → callee_of w line x s ≡ Done c t → Callable w s c
 content_callee w line s t v (Held (cell.Func f)) c h e = let a = function_is w line f s t c e in subst (Callable w s) a.1 ((v, content_is w s v (cell.Func f) h), a.2)
-content_callee w line s t v (BuiltInFunction b) c h e = subst (Callable w s) (done_is (ABuiltIn b) c s t e) tt
+content_callee w line s t v (BuiltInFunction b) c h e = subst (Callable w s) (built_in_is line s t b c (is_function b) e) tt
 content_callee w line s t v (Held (cell.Bound m x)) c h e = subst (Callable w s) (done_is (AMethod m x) c s t e) tt
 content_callee w line s t v _ c h e = cc
 

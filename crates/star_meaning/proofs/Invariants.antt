@@ -13,7 +13,7 @@ use Rattle.star_meaning.specs.declared.fault.FaultCode.{FaultCode}
 use Rattle.star_meaning.specs.Run.{State, Action, ◌>>=◌, give, fail, pay, check, found, code_of, agreed, visiting, seeing, make, build, each, all_of, collect, until, add_line}
 use Rattle.star_meaning.specs.Program.{Setting}
 use Rattle.star_meaning.specs.Values.{change, iterate, leave}
-use Rattle.star_meaning.proofs.Spending.{Spends, spends-same, spends-order, spends-check, spends-text, spends-bare}
+use Rattle.star_meaning.proofs.Spending.{Spends, spends-same, spends-order, spends-check, spends-text, spends-json, spends-bare}
 use Rattle.star_meaning.proofs.Extends.{with_more}
 use Rattle.star_meaning.specs.declared.site.Flow.{Flow}
 use Rattle.star_meaning.specs.declared.site.Flow.TheVariants as flow
@@ -154,4 +154,4 @@ pub respects_repeat : {w : Setting} {inv : Invariant w} (f : ℕ → Action (Uni
 respects_repeat f zero j k = respects_give {A = Unit {0}} tt
 respects_repeat f (suc n) j k = respects_then _ _ (k j) (λ _. respects_repeat f n (j + 1) k)
 
-pub ruleset respects = (refl, spends-same, spends-order, spends-check, spends-text, spends-bare, respects_while, respects_looping, respects_then, respects_give, respects_fail, respects_if, respects_found, respects_pay, respects_seeing, respects_check, respects_make_text, respects_make_tuple, respects_make_list, respects_make_range, respects_make_bound, respects_make_struct, respects_make_empty, respects_build, respects_each, respects_all_of, respects_collect, respects_until, respects_agreed, respects_visiting, respects_change, respects_add_line)
+pub ruleset respects = (refl, spends-same, spends-order, spends-check, spends-text, spends-json, spends-bare, respects_while, respects_looping, respects_then, respects_give, respects_fail, respects_if, respects_found, respects_pay, respects_seeing, respects_check, respects_make_text, respects_make_tuple, respects_make_list, respects_make_range, respects_make_bound, respects_make_struct, respects_make_empty, respects_build, respects_each, respects_all_of, respects_collect, respects_until, respects_agreed, respects_visiting, respects_change, respects_add_line)

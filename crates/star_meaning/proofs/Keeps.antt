@@ -28,7 +28,7 @@ use Rattle.star_meaning.specs.Values.{change, count_of, iterate, leave}
 use Rattle.star_meaning.specs.Binding.{BoundArgument}
 use Rattle.star_meaning.specs.Semantics.{Semantics, block, turns, repeat}
 use Rattle.star_meaning.specs.Calls.{activate, deactivate}
-use Rattle.star_meaning.proofs.Spending.{Spends, spends-same, spends-order, spends-check, spends-text, spends-bare}
+use Rattle.star_meaning.proofs.Spending.{Spends, spends-same, spends-order, spends-check, spends-text, spends-json, spends-bare}
 use Rattle.star_meaning.proofs.Growth as growth
 use Rattle.star_meaning.proofs.Stays as stays
 use Rattle.star_meaning.proofs.Extends as extends
@@ -260,4 +260,4 @@ keeps_parts m k = k.parts
 pub keeps_call : (m : Semantics) → AllKeep m → (p : Site) (f : Function) (d : Definition) (shares : List (Name × BoundArgument)) → Keeps false (m.call p f d shares)
 keeps_call m k = k.call
 
-pub ruleset keeps = (refl, spends-same, spends-order, spends-check, spends-text, spends-bare, keeps_while, keeps_looping, keeps_active, keeps_then, keeps_give, keeps_fail, keeps_if, keeps_found, keeps_pay, keeps_seeing, keeps_check, keeps_make_text, keeps_make_tuple, keeps_make_list, keeps_make_dict, keeps_make_range, keeps_make_bound, keeps_make_struct, keeps_make_frame, keeps_build_text, keeps_build_tuple, keeps_build_list, keeps_build_dict, keeps_build_range, keeps_build_bound, keeps_build_struct, keeps_each, keeps_all_of, keeps_collect, keeps_until, keeps_agreed, keeps_visiting, keeps_bound, keeps_change, keeps_add_line, keeps_make, keeps_build, keeps_block, keeps_turns, keeps_repeat, keeps_read, keeps_bind, keeps_frame, keeps_expr, keeps_stmt, keeps_assign, keeps_parts, keeps_call)
+pub ruleset keeps = (refl, spends-same, spends-order, spends-check, spends-text, spends-json, spends-bare, keeps_while, keeps_looping, keeps_active, keeps_then, keeps_give, keeps_fail, keeps_if, keeps_found, keeps_pay, keeps_seeing, keeps_check, keeps_make_text, keeps_make_tuple, keeps_make_list, keeps_make_dict, keeps_make_range, keeps_make_bound, keeps_make_struct, keeps_make_frame, keeps_build_text, keeps_build_tuple, keeps_build_list, keeps_build_dict, keeps_build_range, keeps_build_bound, keeps_build_struct, keeps_each, keeps_all_of, keeps_collect, keeps_until, keeps_agreed, keeps_visiting, keeps_bound, keeps_change, keeps_add_line, keeps_make, keeps_build, keeps_block, keeps_turns, keeps_repeat, keeps_read, keeps_bind, keeps_frame, keeps_expr, keeps_stmt, keeps_assign, keeps_parts, keeps_call)

@@ -4,7 +4,7 @@ use Rattle.star_store.specs.declared.values.Value.{Value}
 use Rattle.star_meaning.specs.Program.{Setting}
 use Rattle.star_meaning.specs.declared.given.Arguments.{Arguments}
 use Rattle.star_meaning.specs.Attributes.{Attribute, Field, OfType, attribute, attribute_or, attribute_value, call_dir, call_getattr, call_hasattr}
-use Rattle.star_meaning.specs.Characters.{call_chr, call_ord}
+use Rattle.star_meaning.specs.Characters.{call_chr, call_hash, call_ord}
 use Rattle.star_meaning.specs.Structs.{call_struct, new_struct}
 use Rattle.star_meaning.proofs.Invariants.{Invariant, Respects, respects}
 use Rattle.star_meaning.proofs.KeepsArguments.{respects-positional, respects-only_one, respects-two, respects-two_or_three, respects-no_value}
@@ -36,6 +36,9 @@ respects-call_ord w line g = search (respects, respects-want_text, respects-posi
 
 pub respects-call_chr : (w : Setting) {inv : Invariant w} (line : ℕ) (g : Arguments) → Respects inv (call_chr w line g)
 respects-call_chr w line g = search (respects, respects-want_int, respects-new_text, respects-positional, respects-only_one) depth 14
+
+pub respects-call_hash : (w : Setting) {inv : Invariant w} (line : ℕ) (g : Arguments) → Respects inv (call_hash w line g)
+respects-call_hash w line g = search (respects, respects-want_text, respects-positional, respects-only_one) depth 14
 
 pub respects-new_struct : {w : Setting} {inv : Invariant w} (line : ℕ) (fs : List (List ℕ × Value)) → Respects inv (new_struct line fs)
 respects-new_struct line fs = search respects depth 14

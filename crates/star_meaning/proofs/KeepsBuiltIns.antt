@@ -9,16 +9,17 @@ use Rattle.star_meaning.specs.Program.{Setting}
 use Rattle.star_meaning.specs.Values.{Content, Truth, Number, Held}
 use Rattle.star_meaning.specs.declared.given.Arguments.{Arguments}
 use Rattle.std.proofs.Common.{ℕ, List, [], ◌∷◌, Option, Some, None, Bool, ℤ, map}
-use Rattle.star_meaning.specs.BuiltIns.{absolute, call_abs, is_decided, some_item, call_all, call_any, truth_of, call_bool, call_dict, want_start, numbered, call_enumerate, want_separator, print_line, call_print, call_fail, to_int, call_int, call_len, taken_from, call_list, call_tuple, call_reversed, best_of, best_in, candidates, call_best, new_range, range_of, call_range, call_repr, call_str, call_type, sort, sort_items, call_sorted, row_at, call_zip, call_built_in}
+use Rattle.star_meaning.specs.BuiltIns.{absolute, call_abs, is_decided, some_item, call_all, call_any, truth_of, call_bool, call_dict, want_start, numbered, call_enumerate, want_separator, print_line, call_print, call_fail, to_int, int_alone, one_base, int_by, int_with_base, int_of_dialect, call_int, call_len, taken_from, call_list, call_tuple, call_reversed, best_of, best_in, candidates, call_best, new_range, range_of, call_range, call_repr, call_str, call_type, sort, sort_items, call_sorted, row_at, call_zip, call_built_in}
 use Rattle.star_meaning.specs.Orders.{by_itself}
 use Rattle.star_dialect.specs.declared.Dialect.{Dialect}
 use Rattle.star_dialect.specs.declared.Dialect.TheVariants as dialect
 use Rattle.star_meaning.proofs.KeepsOrders.{respects-sort_by, respects-want_reverse}
 use Rattle.star_meaning.proofs.Invariants.{Invariant, Respects, respects}
 use Rattle.star_meaning.proofs.Keeps.{keeps, kept_by, Keeps}
-use Rattle.star_meaning.proofs.KeepsAttributes.{respects-call_chr, respects-call_dir, respects-call_getattr, respects-call_hasattr, respects-call_ord, respects-call_struct}
+use Rattle.star_meaning.proofs.KeepsAttributes.{respects-call_chr, respects-call_dir, respects-call_getattr, respects-call_hasattr, respects-call_hash, respects-call_ord, respects-call_struct}
 use Rattle.star_meaning.proofs.KeepsValues.{respects-with_content, respects-want_int, respects-want_text, respects-new_int, respects-new_text, respects-new_tuple, respects-new_list, respects-count_of, respects-take_item, respects-take_items, respects-take_all, respects-is_true, respects-compare, respects-repr, respects-str}
 use Rattle.star_meaning.proofs.KeepsArguments.{respects-positional, respects-with_name, respects-only_one, respects-none_or_one, respects-one_or_two}
+use Rattle.star_meaning.proofs.KeepsJson.{keeps-call_decode, respects-call_encode, respects-call_encode_indent}
 use Rattle.star_meaning.proofs.KeepsPairs.{respects-pairs_of, respects-pairs_count, keeps-dict_of}
 
 pub respects-absolute : {w : Setting} {inv : Invariant w} → (line : ℕ) (z : ℤ) → Respects inv (absolute line z)
@@ -76,8 +77,27 @@ respects-to_int line (Truth b) = search respects depth 14
 respects-to_int line (Held (cell.Text t)) = search (respects, respects-new_int) depth 14
 respects-to_int line _ = search respects depth 14
 
+pub respects-int_alone : (w : Setting) {inv : Invariant w} (line : ℕ) (g : Arguments) → Respects inv (int_alone w line g)
+respects-int_alone w line g = search (respects, respects-with_content, respects-positional, respects-only_one, respects-to_int) depth 14
+
+pub respects-one_base : {w : Setting} {inv : Invariant w} → (line : ℕ) (a1 : Option Value) (a2 : Option Value) → Respects inv (one_base line a1 a2)
+respects-one_base line None named = search respects depth 14
+respects-one_base line (Some b) None = search respects depth 14
+respects-one_base line (Some b) (Some c) = search respects depth 14
+
+pub respects-int_by : (w : Setting) {inv : Invariant w} (line : ℕ) (v : Value) (a3 : Option Value) → Respects inv (int_by w line v a3)
+respects-int_by w line v None = search (respects, respects-with_content, respects-to_int) depth 14
+respects-int_by w line v (Some b) = search (respects, respects-want_text, respects-want_int, respects-new_int) depth 14
+
+pub respects-int_with_base : (w : Setting) {inv : Invariant w} (line : ℕ) (g : Arguments) → Respects inv (int_with_base w line g)
+respects-int_with_base w line g = search (respects, respects-with_name, respects-one_or_two, respects-one_base, respects-int_by) depth 14
+
+pub respects-int_of_dialect : (w : Setting) {inv : Invariant w} (line : ℕ) (g : Arguments) (a3 : Dialect) → Respects inv (int_of_dialect w line g a3)
+respects-int_of_dialect w line g dialect.Core = respects-int_alone w line g
+respects-int_of_dialect w line g dialect.Extended = respects-int_with_base w line g
+
 pub respects-call_int : (w : Setting) {inv : Invariant w} (line : ℕ) (g : Arguments) → Respects inv (call_int w line g)
-respects-call_int w line g = search (respects, respects-with_content, respects-positional, respects-only_one, respects-to_int) depth 14
+respects-call_int w line g = respects-int_of_dialect w line g w.dialect
 
 pub respects-call_len : (w : Setting) {inv : Invariant w} (line : ℕ) (g : Arguments) → Respects inv (call_len w line g)
 respects-call_len w line g = search (respects, respects-with_content, respects-new_int, respects-positional, respects-only_one) depth 14
@@ -178,5 +198,10 @@ keeps-call_built_in w levels line built_in.Chr g = search (keeps, kept_by w, res
 keeps-call_built_in w levels line built_in.Dir g = search (keeps, kept_by w, respects-call_dir) depth 14
 keeps-call_built_in w levels line built_in.Getattr g = search (keeps, kept_by w, respects-call_getattr) depth 14
 keeps-call_built_in w levels line built_in.Hasattr g = search (keeps, kept_by w, respects-call_hasattr) depth 14
+keeps-call_built_in w levels line built_in.Hash g = search (keeps, kept_by w, respects-call_hash) depth 14
+keeps-call_built_in w levels line built_in.Json g = search keeps depth 14
 keeps-call_built_in w levels line built_in.Ord g = search (keeps, kept_by w, respects-call_ord) depth 14
 keeps-call_built_in w levels line built_in.Struct g = search (keeps, kept_by w, respects-call_struct) depth 14
+keeps-call_built_in w levels line built_in.JsonDecode g = search (keeps, keeps-call_decode) depth 14
+keeps-call_built_in w levels line built_in.JsonEncode g = search (keeps, kept_by w, respects-call_encode) depth 14
+keeps-call_built_in w levels line built_in.JsonEncodeIndent g = search (keeps, kept_by w, respects-call_encode_indent) depth 14

@@ -5,7 +5,7 @@ use Rattle.star_store.specs.declared.range.Range.{Range}
 use Rattle.star_meaning.specs.Program.{Setting}
 use Rattle.star_meaning.specs.Values.{Content, Held}
 use Rattle.std.proofs.Common.{ℕ, List, Option, Some, None}
-use Rattle.star_meaning.specs.Subscript.{row_item, byte_at, entry_value, item_of, index, pay_if_new, put_entry, set_item, set_entry, set_in, set_index, want_part, text_slice, sliced, slice}
+use Rattle.star_meaning.specs.Subscript.{row_item, byte_at, entry_value, item_of, index, pay_if_new, put_entry, set_item, set_entry, set_in, set_index, want_part, text_slice, range_slice, sliced, slice}
 use Rattle.star_meaning.proofs.Invariants.{Invariant, Respects, respects}
 use Rattle.star_meaning.proofs.KeepsValues.{respects-with_content, respects-want_int, respects-new_text, respects-new_tuple, respects-new_list, respects-check_key, respects-guard}
 
@@ -60,10 +60,14 @@ respects-want_part w line (Some v) = search (respects, respects-with_content) de
 pub respects-text_slice : {w : Setting} {inv : Invariant w} → (line : ℕ) (t : List ℕ) (r : Range) → Respects inv (text_slice line t r)
 respects-text_slice line t r = search (respects, respects-new_text) depth 14
 
+pub respects-range_slice : {w : Setting} {inv : Invariant w} → (line : ℕ) (r : Range) (p : Range) → Respects inv (range_slice line r p)
+respects-range_slice line r p = search respects depth 14
+
 pub respects-sliced : {w : Setting} {inv : Invariant w} → (line : ℕ) (a1 : Content) (r : (ℕ → Range)) → Respects inv (sliced line a1 r)
 respects-sliced line (Held (cell.List xs)) r = search (respects, respects-new_list) depth 14
 respects-sliced line (Held (cell.Tuple xs)) r = search (respects, respects-new_tuple) depth 14
 respects-sliced line (Held (cell.Text t)) r = search (respects, respects-text_slice) depth 14
+respects-sliced line (Held (cell.Range s)) r = search (respects, respects-range_slice) depth 14
 respects-sliced line _ r = search respects depth 14
 
 pub respects-slice : (w : Setting) {inv : Invariant w} (line : ℕ) (x : Value) (a : Option Value) (b : Option Value) (c : Option Value) → Respects inv (slice w line x a b c)

@@ -1,9 +1,10 @@
 -- Actions that respect every invariant of runs: values.
 use Rattle.star_store.specs.declared.values.Value.{Value}
+use Rattle.star_store.specs.declared.layout.Layout.{Layout}
 use Rattle.star_meaning.specs.Program.{Setting}
 use Rattle.std.proofs.Common.{ℕ, List, Option, Some, None, ℤ, Bool}
 use Rattle.star_meaning.specs.Run.{Action}
-use Rattle.star_meaning.specs.Values.{with_content, want_int, want_bool, want_text, new_int, new_text, new_tuple, new_list, new_dict, count_of, take_item, take_items, take_all, is_true, equal, compare, check_key, repr, str_of, str, guard, Content}
+use Rattle.star_meaning.specs.Values.{with_content, want_int, want_bool, want_text, new_int, new_text, new_tuple, new_list, new_dict, count_of, take_item, take_items, take_all, is_true, equal, compare, check_key, repr, encoded, str_of, str, guard, Content}
 use Rattle.star_meaning.proofs.Invariants.{Invariant, Respects, respects}
 use Rattle.star_meaning.proofs.Keeps.{keeps, Keeps}
 
@@ -64,6 +65,10 @@ respects-check_key w levels line k = search respects depth 14
 pub respects-repr : (w : Setting) {inv : Invariant w} (levels : ℕ) (line : ℕ) (v : Value) → Respects inv (repr w levels line v)
 unfolding repr
 respects-repr w levels line v = search respects depth 14
+
+pub respects-encoded : (w : Setting) {inv : Invariant w} (levels : ℕ) (line : ℕ) (l : Layout) (v : Value) → Respects inv (encoded w levels line l v)
+unfolding encoded
+respects-encoded w levels line l v = search respects depth 14
 
 pub respects-str_of : (w : Setting) {inv : Invariant w} (levels : ℕ) (line : ℕ) (v : Value) (a4 : Option (List ℕ)) → Respects inv (str_of w levels line v a4)
 respects-str_of w levels line v (Some t) = search respects depth 14

@@ -21,6 +21,7 @@ pub mod KeepsDictMethods
 pub mod KeepsEntries
 pub mod KeepsExpressions
 pub mod KeepsFormat
+pub mod KeepsJson
 pub mod KeepsListMethods
 pub mod KeepsMethods
 pub mod KeepsModule

@@ -7,6 +7,8 @@ use Rattle.star_store.specs.declared.values.Cell.TheVariants as cell
 use Rattle.star_store.specs.declared.fault.StoreFault.{StoreFault}
 use Rattle.star_store.specs.Key.{check_each, check_cell, check_value, check}
 use Rattle.star_store.specs.Fields.{Fields}
+use Rattle.star_store.specs.declared.layout.Layout.{Layout}
+use Rattle.star_store.specs.Json.{put_place, put_items, put_array, put_named, put_member, put_members, put_object, put_dict, put_cell, put_value, json}
 use Rattle.star_store.specs.Equal.{same_pair, same_place, same_items, same_fields, same_found, same_pairs, same_entry, same_entries, same_cells, same_values, same}
 use Rattle.std.specs.declared.cmp.Ordering.{Ordering}
 use Rattle.star_store.specs.Order.{order_places, order_pair, order_place, order_items, order_cells, order_values, order}
@@ -238,6 +240,52 @@ pub spends-text : (look : (Value → Option Cell)) (a1 : ℕ) (path : List Value
 unfolding text
 spends-text look zero path v y4 = search spends depth 14
 spends-text look (suc levels) path v y4 = let h1 : (z2 : List Value) (z3 : Value) (z4 : List ℕ) → Spends (text look levels z2 z3 z4) = λ z2 z3 z4. spends-text look levels z2 z3 z4 in search (spends, spends-say_value, h1) depth 14
+
+pub spends-put_place : (l : Layout) (n : ℕ) (f : (Value → (List ℕ → Spend (List ℕ)))) (xs : List Value) (i : ℕ) (a3 : List ℕ) → ((x0 : Value) (x1 : List ℕ) → Spends (f x0 x1)) → Spends (put_place l n f xs i a3)
+spends-put_place l n f xs i y3 k0 = search (spends, spends-say, spends-then_say, spends-say_item) depth 14
+
+pub spends-put_items : (l : Layout) (n : ℕ) (f : (Value → (List ℕ → Spend (List ℕ)))) (xs : List Value) (a2 : List ℕ) → ((x0 : Value) (x1 : List ℕ) → Spends (f x0 x1)) → Spends (put_items l n f xs a2)
+spends-put_items l n f xs y2 k0 = search (spends, spends-all_said, spends-put_place) depth 14
+
+pub spends-put_array : (l : Layout) (n : ℕ) (f : (Value → (List ℕ → Spend (List ℕ)))) (xs : List Value) (a2 : List ℕ) → ((x0 : Value) (x1 : List ℕ) → Spends (f x0 x1)) → Spends (put_array l n f xs a2)
+spends-put_array l n f xs y2 k0 = search (spends, spends-say, spends-then_say, spends-put_items) depth 14
+
+pub spends-put_named : (l : Layout) (f : (Value → (List ℕ → Spend (List ℕ)))) (a1 : Option (List ℕ × Value)) (a2 : List ℕ) → ((x0 : Value) (x1 : List ℕ) → Spends (f x0 x1)) → Spends (put_named l f a1 a2)
+spends-put_named l f (Some e) y2 k0 = search (spends, spends-say, spends-then_say) depth 14
+spends-put_named l f None y2 k0 = search (spends, spends-say) depth 14
+
+pub spends-put_member : (l : Layout) (n : ℕ) (f : (Value → (List ℕ → Spend (List ℕ)))) (fs : Fields) (i : ℕ) (a3 : List ℕ) → ((x0 : Value) (x1 : List ℕ) → Spends (f x0 x1)) → Spends (put_member l n f fs i a3)
+spends-put_member l n f fs i y3 k0 = search (spends, spends-say, spends-then_say, spends-put_named) depth 14
+
+pub spends-put_members : (l : Layout) (n : ℕ) (f : (Value → (List ℕ → Spend (List ℕ)))) (fs : Fields) (a2 : List ℕ) → ((x0 : Value) (x1 : List ℕ) → Spends (f x0 x1)) → Spends (put_members l n f fs a2)
+spends-put_members l n f fs y2 k0 = search (spends, spends-all_said, spends-put_member) depth 14
+
+pub spends-put_object : (l : Layout) (n : ℕ) (f : (Value → (List ℕ → Spend (List ℕ)))) (fs : Fields) (a2 : List ℕ) → ((x0 : Value) (x1 : List ℕ) → Spends (f x0 x1)) → Spends (put_object l n f fs a2)
+spends-put_object l n f fs y2 k0 = search (spends, spends-say, spends-then_say, spends-put_members) depth 14
+
+pub spends-put_dict : (l : Layout) (n : ℕ) (f : (Value → (List ℕ → Spend (List ℕ)))) (a3 : Option Fields) (a4 : List ℕ) → ((x0 : Value) (x1 : List ℕ) → Spends (f x0 x1)) → Spends (put_dict l n f a3 a4)
+spends-put_dict l n f (Some fs) y4 k0 = search (spends, spends-put_object) depth 14
+spends-put_dict l n f None y4 k0 = search spends depth 14
+
+pub spends-put_cell : (look : (Value → Option Cell)) (l : Layout) (n : ℕ) (f : (ℕ → Value → (List ℕ → Spend (List ℕ)))) (a3 : Option Cell) (a4 : List ℕ) → ((x0 : ℕ) (x1 : Value) (x2 : List ℕ) → Spends (f x0 x1 x2)) → Spends (put_cell look l n f a3 a4)
+spends-put_cell look l n f (Some (cell.Text t)) y4 k0 = search (spends, spends-say) depth 14
+spends-put_cell look l n f (Some (cell.Tuple xs)) y4 k0 = search (spends, spends-put_array) depth 14
+spends-put_cell look l n f (Some (cell.List xs)) y4 k0 = search (spends, spends-put_array) depth 14
+spends-put_cell look l n f (Some (cell.Dict es)) y4 k0 = search (spends, spends-put_dict) depth 14
+spends-put_cell look l n f (Some (cell.Struct fs)) y4 k0 = search (spends, spends-put_object) depth 14
+spends-put_cell look l n f _ y4 k0 = search spends depth 14
+
+pub spends-put_value : (look : (Value → Option Cell)) (l : Layout) (n : ℕ) (f : (ℕ → Value → (List ℕ → Spend (List ℕ)))) (a3 : Value) (a4 : List ℕ) → ((x0 : ℕ) (x1 : Value) (x2 : List ℕ) → Spends (f x0 x1 x2)) → Spends (put_value look l n f a3 a4)
+spends-put_value look l n f value.NoneValue y4 k0 = search (spends, spends-say) depth 14
+spends-put_value look l n f (value.Bool b) y4 k0 = search (spends, spends-say) depth 14
+spends-put_value look l n f (value.Int z) y4 k0 = search (spends, spends-say) depth 14
+spends-put_value look l n f (value.Builtin b) y4 k0 = search spends depth 14
+spends-put_value look l n f (value.Ref h a) y4 k0 = search (spends, spends-put_cell) depth 14
+
+pub spends-json : (look : (Value → Option Cell)) (l : Layout) (a1 : ℕ) (n : ℕ) (v : Value) (a4 : List ℕ) → Spends (json look l a1 n v a4)
+unfolding json
+spends-json look l zero n v y4 = search spends depth 14
+spends-json look l (suc levels) n v y4 = let h1 : (z2 : ℕ) (z3 : Value) (z4 : List ℕ) → Spends (json look l levels z2 z3 z4) = λ z2 z3 z4. spends-json look l levels z2 z3 z4 in search (spends, spends-put_value, h1) depth 14
 
 pub spends-bare : (levels : ℕ) (t : List ℕ) → Spends (bare levels t)
 spends-bare zero t = search spends depth 14

@@ -1,4 +1,4 @@
--- Attributes: the fields of structs, and the methods that a value has.
+-- Attributes: the fields of structs, the members of `json`, and the methods that a value has.
 use Rattle.std.specs.Prelude.{ℕ, ◌&&◌, List, [], ◌∷◌, ◌++◌, map, filter, Option, Some, None, codes, if◌then◌else◌}
 use Rattle.std.specs.List.{find}
 use Rattle.std.specs.Option.{option_map, is_some}
@@ -9,9 +9,11 @@ use Rattle.std.specs.Cmp.Lexicographic.{slice_cmp}
 use Rattle.star_store.specs.declared.values.Value.{Value}
 use Rattle.star_store.specs.declared.values.Value.TheVariants as value
 use Rattle.star_store.specs.declared.values.Cell.TheVariants as cell
+use Rattle.star_store.specs.declared.names.BuiltIn.{BuiltIn}
+use Rattle.star_store.specs.declared.names.BuiltIn.TheVariants as built_in
 use Rattle.star_store.specs.declared.names.Method.{Method}
 use Rattle.star_store.specs.declared.names.Method.TheVariants as method
-use Rattle.star_store.specs.Fields.{names_of}
+use Rattle.star_store.specs.Fields.{Fields, names_of}
 use Rattle.star_store.specs.Names.{method_name, receiver_type}
 use Rattle.star_store.specs.Store.{global_of}
 use Rattle.star_strings.specs.Table.{named, rows}
@@ -21,7 +23,7 @@ use Rattle.star_meaning.specs.declared.fault.FaultCode.TheVariants as code
 use Rattle.star_meaning.specs.Run.{Action, ◌>>=◌, give, found, each, build}
 use Rattle.star_outline.specs.Names.{same_name}
 use Rattle.star_meaning.specs.Program.{Setting}
-use Rattle.star_meaning.specs.Values.{Content, Held, with_content, type_name, want_text, new_text, new_list}
+use Rattle.star_meaning.specs.Values.{Content, BuiltInFunction, Held, with_content, type_name, want_text, new_text, new_list}
 use Rattle.star_meaning.specs.declared.given.Arguments.{Arguments}
 use Rattle.star_meaning.specs.Arguments.{positional, only_one, two, two_or_three}
 
@@ -49,7 +51,14 @@ or_in_table dialect.Extended type name None =
 abbrev pub method_of : Dialect → List ℕ → List ℕ → Option Method
 method_of d type name = or_in_table d type name (core_method_of type name)
 
--- an attribute: a field of a struct, or a method of the value's type
+-- the members of a module, in byte order of their names
+abbrev pub members : BuiltIn → Fields
+members built_in.Json =
+    (codes "decode", value.Builtin built_in.JsonDecode) ∷ (codes "encode", value.Builtin built_in.JsonEncode)
+    ∷ (codes "encode_indent", value.Builtin built_in.JsonEncodeIndent) ∷ []
+members _ = []
+
+-- an attribute: a field of a struct, a member of a module, or a method of the value's type
 pub data Attribute : Type 0 where
   Field : Value → Attribute
   OfType : Method → Attribute
@@ -57,9 +66,10 @@ pub data Attribute : Type 0 where
 -- the attribute of a value with a name
 abbrev pub attribute_in : Dialect → Content → List ℕ → Option Attribute
 attribute_in d (Held (cell.Struct fs)) name = option_map Field (global_of name fs)
+attribute_in d (BuiltInFunction b) name = option_map Field (global_of name (members b))
 attribute_in d c name = option_map OfType (method_of d (type_name c) name)
 
--- its value: that of a field is there, a method is a new bound method
+-- its value: that of a field or of a member is there, a method is a new bound method
 abbrev pub attribute_value : ℕ → Value → Attribute → Action Value
 attribute_value line x (Field v) = give v
 attribute_value line x (OfType m) = build line 1 (cell.Bound m x)
@@ -115,6 +125,7 @@ method_names d type = names_once (core_names type ++ table_names d type)
 -- the names of the attributes of a value, in byte order
 abbrev pub attribute_names : Dialect → Content → List (List ℕ)
 attribute_names d (Held (cell.Struct fs)) = names_of fs
+attribute_names d (BuiltInFunction b) = names_of (members b)
 attribute_names d c = method_names d (type_name c)
 
 -- dir(x): they are new strings, in a new list

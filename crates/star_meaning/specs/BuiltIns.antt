@@ -20,10 +20,13 @@ use Rattle.star_meaning.specs.Values.{Content, Truth, Number, Held, content, wit
 use Rattle.star_meaning.specs.declared.given.Arguments.{Arguments}
 use Rattle.star_meaning.specs.Arguments.{positional, with_name, only_one, none_or_one, one_or_two}
 use Rattle.star_meaning.specs.Attributes.{call_dir, call_getattr, call_hasattr}
-use Rattle.star_meaning.specs.Characters.{call_chr, call_ord}
+use Rattle.star_meaning.specs.Characters.{call_chr, call_hash, call_ord}
+use Rattle.star_strings.specs.Ints.{base_of, int_in}
+use Rattle.star_meaning.specs.Json.{call_decode, call_encode, call_encode_indent}
 use Rattle.star_meaning.specs.Pairs.{pairs_count, pairs_of, dict_of}
 use Rattle.star_meaning.specs.Orders.{by_itself, can_sort, is_before, sort_by, want_reverse}
-use Rattle.star_meaning.specs.Sorting.{in_order}
+use Rattle.star_store.specs.Sorting.{in_order}
+use Rattle.star_meaning.specs.Spelling.{spelled}
 use Rattle.star_meaning.specs.Structs.{call_struct}
 
 -- abs(x)
@@ -110,36 +113,43 @@ call_print w levels line g = print_line w levels line g >>= λ _. give value.Non
 abbrev pub call_fail : Setting → ℕ → ℕ → Arguments → Action Value
 call_fail w levels line g = print_line w levels line g >>= λ _. fail code.Fail line
 
--- int(x): an int, a bool as 1 or 0, or a string of an optional sign and decimal digits, else `value`
-abbrev pub is_digit : ℕ → Bool
-is_digit b = not (nat_lt b 48) && nat_lt b 58
-
-abbrev pub number_from : ℕ → List ℕ → ℕ
-number_from n [] = n
-number_from n (b ∷ bs) = number_from (n * 10 + (b - 48)) bs
-
-abbrev pub decimal_of : List ℕ → Option ℕ
-decimal_of t = if list_all is_digit t && not (nat_eq (length t) 0) then Some (number_from 0 t) else None
-
-abbrev pub signed_by : (ℕ → ℤ) → Option ℕ → Option ℤ
-signed_by f None = None
-signed_by f (Some n) = Some (f n)
-
-abbrev pub spelled : List ℕ → Option ℤ
-spelled [] = None
-spelled (b ∷ bs) =
-    if nat_eq b 45 then signed_by (λ n. neg_ℤ (pos n)) (decimal_of bs)
-    else (if nat_eq b 43 then signed_by pos (decimal_of bs)
-    else signed_by pos (decimal_of (b ∷ bs)))
-
+-- int(x): an int, a bool as 1 or 0, or a string that spells an int, else `value`
 abbrev pub to_int : ℕ → Content → Action Value
 to_int line (Number z) = give (value.Int z)
 to_int line (Truth b) = give (value.Int (if b then pos 1 else pos 0))
 to_int line (Held (cell.Text t)) = found code.BadValue line (spelled t) >>= new_int line
 to_int line _ = fail code.BadType line
 
+abbrev pub int_alone : Setting → ℕ → Arguments → Action Value
+int_alone w line g = positional line g >>= only_one line >>= λ v. with_content w v (to_int line)
+
+-- int(x, [base]), of the extended language: the base by place or by name; with one x is a string
+abbrev pub one_base : ℕ → Option Value → Option Value → Action (Option Value)
+one_base line None named = give named
+one_base line (Some b) None = give (Some b)
+one_base line (Some b) (Some c) = fail code.Args line
+
+abbrev pub int_by : Setting → ℕ → Value → Option Value → Action Value
+int_by w line v None = with_content w v (to_int line)
+int_by w line v (Some b) = do
+  t ← want_text w line v
+  n ← want_int w line b
+  base ← found code.BadValue line (base_of n)
+  found code.BadValue line (int_in base t) >>= new_int line
+
+abbrev pub int_with_base : Setting → ℕ → Arguments → Action Value
+int_with_base w line g = do
+  a ← with_name line (codes "base") g
+  xs ← one_or_two line a.0
+  base ← one_base line xs.1 a.1
+  int_by w line xs.0 base
+
+abbrev pub int_of_dialect : Setting → ℕ → Arguments → Dialect → Action Value
+int_of_dialect w line g dialect.Core = int_alone w line g
+int_of_dialect w line g dialect.Extended = int_with_base w line g
+
 abbrev pub call_int : Setting → ℕ → Arguments → Action Value
-call_int w line g = positional line g >>= only_one line >>= λ v. with_content w v (to_int line)
+call_int w line g = int_of_dialect w line g w.dialect
 
 -- len(x)
 abbrev pub length_in : Content → Option ℕ
@@ -255,7 +265,7 @@ call_zip w line g = do
   rows ← collect (row_at w line vs) (least ns) 0
   new_list line rows
 
--- a call of a built-in function, whose visits may open this many levels
+-- a call of a built-in function, whose visits may open this many levels; a module is no function
 unfoldable pub call_built_in : Setting → ℕ → ℕ → BuiltIn → Arguments → Action Value
 call_built_in w levels line built_in.Abs g = call_abs w line g
 call_built_in w levels line built_in.All g = call_all w line g
@@ -282,5 +292,10 @@ call_built_in w levels line built_in.Chr g = call_chr w line g
 call_built_in w levels line built_in.Dir g = call_dir w line g
 call_built_in w levels line built_in.Getattr g = call_getattr w line g
 call_built_in w levels line built_in.Hasattr g = call_hasattr w line g
+call_built_in w levels line built_in.Hash g = call_hash w line g
+call_built_in w levels line built_in.Json g = fail code.BadType line
 call_built_in w levels line built_in.Ord g = call_ord w line g
 call_built_in w levels line built_in.Struct g = call_struct line g
+call_built_in w levels line built_in.JsonDecode g = call_decode w levels line g
+call_built_in w levels line built_in.JsonEncode g = call_encode w levels line g
+call_built_in w levels line built_in.JsonEncodeIndent g = call_encode_indent w levels line g

@@ -9,6 +9,7 @@ use Rattle.star_store.specs.declared.values.Cell.TheVariants as cell
 use Rattle.star_store.specs.declared.values.Function.{Function}
 use Rattle.star_store.specs.declared.names.BuiltIn.{BuiltIn}
 use Rattle.star_store.specs.declared.names.BuiltIn.TheVariants as built_in
+use Rattle.star_store.specs.Names.{is_function}
 use Rattle.star_store.specs.declared.names.Method.{Method}
 use Rattle.star_tree.specs.declared.tree.Argument.{Argument}
 use Rattle.star_tree.specs.declared.tree.Expression.{Expression}
@@ -62,7 +63,7 @@ function_callee w line f = do
 
 abbrev pub callee_of : Setting → ℕ → Content → Action Callee
 callee_of w line (Held (cell.Func f)) = function_callee w line f
-callee_of w line (BuiltInFunction b) = give (ABuiltIn b)
+callee_of w line (BuiltInFunction b) = check code.BadType line (is_function b) >>= λ _. give (ABuiltIn b)
 callee_of w line (Held (cell.Bound m x)) = give (AMethod m x)
 callee_of w line _ = fail code.BadType line
 

@@ -18,11 +18,12 @@ pub mod Arguments
 pub mod Binding
 pub mod Calls
 pub mod Pairs
-pub mod Sorting
 pub mod Merging
 pub mod Orders
 pub mod Attributes
 pub mod Structs
+pub mod Spelling
+pub mod Json
 pub mod Characters
 pub mod BuiltIns
 pub mod Format

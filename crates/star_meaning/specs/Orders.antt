@@ -7,6 +7,7 @@ use Rattle.std.specs.Cmp.Lexicographic.{slice_cmp}
 use Rattle.std.specs.declared.cmp.Ordering.{Ordering}
 use Rattle.star_store.specs.declared.values.Value.{Value}
 use Rattle.star_store.specs.declared.values.Cell.TheVariants as cell
+use Rattle.star_store.specs.Names.{is_function}
 use Rattle.star_outline.specs.Names.{same_name}
 use Rattle.star_meaning.specs.declared.fault.FaultCode.TheVariants as code
 use Rattle.star_meaning.specs.declared.given.Arguments.{Arguments}
@@ -17,7 +18,7 @@ use Rattle.star_meaning.specs.Values.{Content, Nothing, Number, BuiltInFunction,
 use Rattle.star_meaning.specs.Arguments.{with_name, only_one}
 use Rattle.star_meaning.specs.Binding.{value_named}
 use Rattle.star_meaning.specs.Merging.{merge_sort}
-use Rattle.star_meaning.specs.Sorting.{in_order}
+use Rattle.star_store.specs.Sorting.{in_order}
 
 -- whether a name is given
 abbrev pub is_named : List ℕ → List KeywordArgument → Bool
@@ -31,7 +32,7 @@ want_reverse w line (Some v) = want_bool w line v
 -- the function of `key`: none without a value and for None; else what can be called, or `type`
 abbrev pub key_in : ℕ → Value → Content → Action (Option Value)
 key_in line v Nothing = give None
-key_in line v (BuiltInFunction b) = give (Some v)
+key_in line v (BuiltInFunction b) = check code.BadType line (is_function b) >>= λ _. give (Some v)
 key_in line v (Held (cell.Func f)) = give (Some v)
 key_in line v (Held (cell.Bound m x)) = give (Some v)
 key_in line v _ = fail code.BadType line

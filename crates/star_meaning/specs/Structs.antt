@@ -1,24 +1,18 @@
 -- New structs, of the extended language.
-use Rattle.std.specs.Prelude.{ℕ, ◌+◌, Bool, List, [], ◌∷◌, length, map}
-use Rattle.std.specs.Ordering.{is_lt, nat_cmp}
-use Rattle.std.specs.Cmp.Lexicographic.{slice_cmp}
+use Rattle.std.specs.Prelude.{ℕ, ◌+◌, List, [], ◌∷◌, length, map}
 use Rattle.star_store.specs.declared.values.Value.{Value}
 use Rattle.star_store.specs.declared.values.Cell.TheVariants as cell
-use Rattle.star_store.specs.Fields.{Fields, names_of, risen}
+use Rattle.star_store.specs.Fields.{Fields, is_before, names_of, risen}
 use Rattle.star_meaning.specs.declared.fault.FaultCode.TheVariants as code
 use Rattle.star_meaning.specs.Run.{Action, ◌>>=◌, found, build}
 use Rattle.star_meaning.specs.declared.given.Arguments.{Arguments}
 use Rattle.star_meaning.specs.declared.given.KeywordArgument.{KeywordArgument}
 use Rattle.star_meaning.specs.Arguments.{no_value}
-use Rattle.star_meaning.specs.Sorting.{in_order}
+use Rattle.star_store.specs.Sorting.{in_order}
 
 -- keyword arguments as fields
 abbrev pub given_fields : List KeywordArgument → Fields
 given_fields ns = map (λ n. (n.name, n.value)) ns
-
--- whether a field comes before another, by the bytes of their names
-abbrev pub is_before : List ℕ × Value → List ℕ × Value → Bool
-is_before e f = is_lt (slice_cmp nat_cmp e.0 f.0)
 
 -- what names cost: 1 and its bytes for each
 abbrev pub names_cost : List (List ℕ) → ℕ

@@ -8,8 +8,11 @@ use Rattle.star_store.specs.declared.values.Cell.TheVariants as cell
 use Rattle.star_store.specs.declared.arena.write.Change.TheVariants as change_to
 use Rattle.star_store.specs.declared.range.Range.{Range}
 use Rattle.star_store.specs.Range.{range_length}
+use Rattle.star_store.specs.Arithmetic.{checked}
+use Rattle.star_dialect.specs.declared.Dialect.{Dialect}
+use Rattle.star_dialect.specs.declared.Dialect.TheVariants as dialect
 use Rattle.star_meaning.specs.declared.fault.FaultCode.TheVariants as code
-use Rattle.star_meaning.specs.Run.{Action, ◌>>=◌, give, fail, pay, check, found, seeing}
+use Rattle.star_meaning.specs.Run.{Action, ◌>>=◌, give, fail, pay, check, found, agreed, seeing, build}
 use Rattle.star_meaning.specs.Program.{Setting}
 use Rattle.star_meaning.specs.Values.{Content, Nothing, Number, Held, content, with_content, item_in, want_int, new_text, new_tuple, new_list, check_key, place_in, value_in, guard, change}
 
@@ -152,19 +155,34 @@ is_whole t r =
 abbrev pub text_slice : ℕ → List ℕ → Range → Action Value
 text_slice line t r = check code.Cut line (is_whole t r) >>= λ _. new_text line (picked t (places_of r))
 
--- the part of a list, tuple or string at the places of a range
+-- the ints of a range at the places of another one, which may begin or end outside of it: `overflow` for a bound or a step
+-- outside 64 bits
+abbrev pub range_slice : ℕ → Range → Range → Action Value
+range_slice line r p = do
+  start ← agreed line (checked (r.start +ℤ p.start *ℤ r.step))
+  stop ← agreed line (checked (r.start +ℤ p.stop *ℤ r.step))
+  step ← agreed line (checked (r.step *ℤ p.step))
+  build line 1 (cell.Range (record { start = start; stop = stop; step = step }))
+
+-- the part of a list, tuple, string or range at the places of a range
 abbrev pub sliced : ℕ → Content → (ℕ → Range) → Action Value
 sliced line (Held (cell.List xs)) r = new_list line (picked xs (places_of (r (length xs))))
 sliced line (Held (cell.Tuple xs)) r = new_tuple line (picked xs (places_of (r (length xs))))
 sliced line (Held (cell.Text t)) r = text_slice line t (r (length t))
+sliced line (Held (cell.Range s)) r = range_slice line s (r (range_length s))
 sliced line _ r = fail code.BadType line
 
--- whether a value has slices
-abbrev pub has_slices : Content → Bool
-has_slices (Held (cell.List xs)) = true
-has_slices (Held (cell.Tuple xs)) = true
-has_slices (Held (cell.Text t)) = true
-has_slices _ = false
+-- whether a value has slices: a range has them in the extended language
+abbrev pub has_range_slices : Dialect → Bool
+has_range_slices dialect.Core = false
+has_range_slices dialect.Extended = true
+
+abbrev pub has_slices : Dialect → Content → Bool
+has_slices d (Held (cell.List xs)) = true
+has_slices d (Held (cell.Tuple xs)) = true
+has_slices d (Held (cell.Text t)) = true
+has_slices d (Held (cell.Range r)) = has_range_slices d
+has_slices d _ = false
 
 abbrev pub stride_of : Option ℤ → ℤ
 stride_of None = pos 1
@@ -173,7 +191,7 @@ stride_of (Some z) = z
 -- x[a:b:c]: `type` of the base, then of the parts in order; a stride of 0 is `value`
 unfoldable pub slice : Setting → ℕ → Value → Option Value → Option Value → Option Value → Action Value
 slice w line x a b c = do
-  _ ← with_content w x (λ d. check code.BadType line (has_slices d))
+  _ ← with_content w x (λ d. check code.BadType line (has_slices w.dialect d))
   start ← want_part w line a
   stop ← want_part w line b
   stride ← want_part w line c

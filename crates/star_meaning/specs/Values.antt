@@ -1,5 +1,5 @@
 -- Values in a run: their contents, new ones with their payments, the items of iterables, and visits of values.
-use Rattle.std.specs.Prelude.{ℕ, zero, suc, ◌+◌, nat_lt, if◌then◌else◌, Bool, List, [], length, Option, Some, None, slice_get, ℤ, pos, ◌+ℤ◌, ◌*ℤ◌, codes, Result, Ok, Err}
+use Rattle.std.specs.Prelude.{ℕ, zero, suc, ◌+◌, nat_lt, if◌then◌else◌, Bool, true, false, List, [], length, Option, Some, None, slice_get, ℤ, pos, ◌+ℤ◌, ◌*ℤ◌, codes, Result, Ok, Err}
 use Rattle.std.specs.Option.{option_map}
 use Rattle.std.specs.declared.cmp.Ordering.{Ordering}
 use Rattle.star_store.specs.declared.values.Value.{Value}
@@ -7,6 +7,7 @@ use Rattle.star_store.specs.declared.values.Value.TheVariants as value
 use Rattle.star_store.specs.declared.values.Cell.{Cell}
 use Rattle.star_store.specs.declared.values.Cell.TheVariants as cell
 use Rattle.star_store.specs.declared.names.BuiltIn.{BuiltIn}
+use Rattle.star_store.specs.Names.{is_function}
 use Rattle.star_store.specs.declared.arena.write.Change.{Change}
 use Rattle.star_store.specs.declared.fault.StoreFault.{StoreFault}
 use Rattle.star_store.specs.declared.fault.StoreFault.TheVariants as refused
@@ -20,6 +21,8 @@ use Rattle.star_store.specs.Equal.{same}
 use Rattle.star_store.specs.Order.{order}
 use Rattle.star_store.specs.Key as keys
 use Rattle.star_store.specs.Text.{text}
+use Rattle.star_store.specs.Json.{json}
+use Rattle.star_store.specs.declared.layout.Layout.{Layout}
 use Rattle.star_store.specs.Write.{may_write, write}
 use Rattle.star_meaning.specs.declared.fault.FaultCode.TheVariants as code
 use Rattle.star_meaning.specs.Run.{State, Action, Done, ◌>>=◌, give, pay, found, agreed, visiting, seeing, storing, build, collect}
@@ -49,12 +52,17 @@ content w s (value.Ref h a) = held (seen w s (value.Ref h a))
 abbrev pub with_content : {A : Type 0} → Setting → Value → (Content → Action A) → Action A
 with_content w v f = seeing (λ s. f (content w s v))
 
+-- the type of a built-in function, and of a module
+abbrev pub built_in_type : Bool → List ℕ
+built_in_type true = codes "builtin_function_or_method"
+built_in_type false = codes "module"
+
 -- the name of a value's type
 abbrev pub type_name : Content → List ℕ
 type_name Nothing = codes "NoneType"
 type_name (Truth b) = codes "bool"
 type_name (Number n) = codes "int"
-type_name (BuiltInFunction b) = codes "builtin_function_or_method"
+type_name (BuiltInFunction b) = built_in_type (is_function b)
 type_name (Held (cell.Text t)) = codes "string"
 type_name (Held (cell.Range r)) = codes "range"
 type_name (Held (cell.Tuple xs)) = codes "tuple"
@@ -168,6 +176,10 @@ check_key w levels line k = visiting line (λ s. keys.check (seen w s) levels k)
 unfoldable pub repr : Setting → ℕ → ℕ → Value → Action (List ℕ)
 repr w levels line v = visiting line (λ s. text (seen w s) levels [] v [])
 
+-- the JSON of a value, in a layout
+unfoldable pub encoded : Setting → ℕ → ℕ → Layout → Value → Action (List ℕ)
+encoded w levels line l v = visiting line (λ s. json (seen w s) l levels 0 v [])
+
 -- a string as it is, with one visit
 abbrev pub bare : ℕ → List ℕ → Spend (List ℕ)
 bare zero t = λ n. Lacks refused.Deep n
@@ -188,6 +200,10 @@ place_in w s k es = keys.place_of (seen w s) k es
 -- the value of the entry with a key
 abbrev pub value_in : Setting → State → Value → List (Value × Value) → Option Value
 value_in w s k es = keys.value_of (seen w s) k es
+
+-- the value of the entry whose key is the string of these bytes
+abbrev pub text_value : Setting → State → List ℕ → List (Value × Value) → Option Value
+text_value w s t es = keys.text_value (seen w s) t es
 
 -- the write guard: `type` if it is not a list or dictionary, then `frozen`, then `iterating`
 unfoldable pub guard : Setting → ℕ → Value → Action (Unit {0})

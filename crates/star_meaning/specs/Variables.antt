@@ -43,7 +43,7 @@ nearest w s name (suc n) frame =
     else_in (option_and_then (in_frame w name) (option_and_then (λ v. frame_of (seen w s v)) frame))
     (nearest w s name n (option_and_then (λ f. f.parent) (option_and_then (λ v. frame_of (seen w s v)) frame)))
 
--- the built-in functions of the core, and the further ones of the extended language
+-- the built-in functions of the core, and what the extended language has further: functions, and the module `json`
 abbrev pub core_built_ins : List BuiltIn
 core_built_ins =
     built_in.Abs ∷ built_in.All ∷ built_in.Any ∷ built_in.Bool ∷ built_in.Dict ∷ built_in.Enumerate ∷ built_in.Fail
@@ -53,7 +53,8 @@ core_built_ins =
 
 abbrev pub further_built_ins : List BuiltIn
 further_built_ins =
-    built_in.Chr ∷ built_in.Dir ∷ built_in.Getattr ∷ built_in.Hasattr ∷ built_in.Ord ∷ built_in.Struct ∷ []
+    built_in.Chr ∷ built_in.Dir ∷ built_in.Getattr ∷ built_in.Hasattr ∷ built_in.Hash ∷ built_in.Json ∷ built_in.Ord
+    ∷ built_in.Struct ∷ []
 
 abbrev pub built_ins : Dialect → List BuiltIn
 built_ins dialect.Core = core_built_ins

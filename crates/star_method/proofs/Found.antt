@@ -19,7 +19,7 @@ with_one : (b : Bool) (o : Option (Unit {0})) → is_some (cond b (Some tt) o) �
 with_one true o = refl
 with_one false o = refl
 
-has_more : (old new : BTreeMap (Bor (List ℕ)) (Unit {0})) (first : Bor (List ℕ)) (q : List ℕ) → Updates (λ x y. slice_cmp nat_cmp x.now y.now) old new first (Some tt) → has new q ≡ (bytes_eq q first.now || has old q)
+pub has_more : (old new : BTreeMap (Bor (List ℕ)) (Unit {0})) (first : Bor (List ℕ)) (q : List ℕ) → Updates (λ x y. slice_cmp nat_cmp x.now y.now) old new first (Some tt) → has new q ≡ (bytes_eq q first.now || has old q)
 has_more old new first q u =
     ap is_some (btree_map_updates_str first.now old new (Some tt) u q) ∙ with_one (bytes_eq first.now q) (get_by (λ k. slice_cmp nat_cmp q k.now) old)
     ∙ ap (λ b. b || has old q) (same first.now q)

@@ -55,7 +55,9 @@ const BUILT_INS: [&str; 24] = [
 ];
 
 /// The further names of the outermost block of the extended language.
-const FURTHER: [&str; 6] = ["chr", "dir", "getattr", "hasattr", "ord", "struct"];
+const FURTHER: [&str; 8] = [
+    "chr", "dir", "getattr", "hasattr", "hash", "json", "ord", "struct",
+];
 
 /// A file whose text parses: its tokens and its tree.
 #[derive(Clone, Copy)]

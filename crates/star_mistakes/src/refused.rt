@@ -27,8 +27,14 @@ const NO_SETS: &str = "there are no sets: use a dict whose values are `True`";
 
 const NO_FLOATS: &str = "there are no floats: count in a smaller unit with ints";
 
+const HASH: &str =
+    "the extended language has it: `--language extended`; a dict finds its keys without it";
+
 const ATTRIBUTES: &str =
     "the extended language has it: `--language extended`; here use a dict, and `key in d` or `d.get(key)`";
+
+const JSON: &str =
+    "the extended language has it: `--language extended`; and `--with values` shows globals as JSON";
 
 const NO_WRITES: &str = "nothing writes an attribute: use a dict, and `d[key] = value`";
 
@@ -56,10 +62,10 @@ const OF_DIALECTS: &[(&'static str, &'static str)] = &[
     ("setattr", NO_WRITES),
     ("hasattr", ATTRIBUTES),
     ("dir", EXTENDED),
-    ("hash", "a dict finds its keys without it"),
+    ("hash", HASH),
     ("ord", EXTENDED),
     ("chr", EXTENDED),
-    ("json", "`--with values` shows globals as JSON"),
+    ("json", JSON),
     ("map", COMPREHENSION),
     ("filter", COMPREHENSION),
     ("sum", "add in a loop: `for x in xs:` and `total += x`"),

@@ -35,7 +35,7 @@ unfolding given name_key count_of take_item
 same-given os w line ps = refl
 
 pub same-call_built_in : (os : List (Option Outline)) (w : Setting) (levels line : ℕ) (b : BuiltIn) (g : Arguments) → call_built_in (with_outlines os w) levels line b g ≡ call_built_in w levels line b g
-unfolding call_built_in operate prefix comparison pairs_of put_pairs dict_of update_with index put_entry set_index slice count_of take_item iterate is_true equal compare check_key repr str guard change extend name_key
+unfolding call_built_in operate prefix comparison pairs_of put_pairs dict_of update_with index put_entry set_index slice count_of take_item iterate is_true equal compare check_key repr encoded str guard change extend name_key
 same-call_built_in os w levels line b g = refl
 
 pub same-asked_to_sort : (os : List (Option Outline)) (w : Setting) (line : ℕ) (g : Arguments) → asked_to_sort (with_outlines os w) line g ≡ asked_to_sort w line g
@@ -55,7 +55,7 @@ unfolding compare
 same-best_by os w levels line better ps = refl
 
 pub same-call_method : (os : List (Option Outline)) (w : Setting) (levels line : ℕ) (b : Method) (x : Value) (g : Arguments) → call_method (with_outlines os w) levels line b x g ≡ call_method w levels line b x g
-unfolding call_method call_built_in attribute operate prefix comparison pairs_of put_pairs dict_of update_with index put_entry set_index slice count_of take_item iterate is_true equal compare check_key repr str guard change extend name_key
+unfolding call_method call_built_in attribute operate prefix comparison pairs_of put_pairs dict_of update_with index put_entry set_index slice count_of take_item iterate is_true equal compare check_key repr encoded str guard change extend name_key
 same-call_method os w levels line b x g = refl
 
 pub same-attribute : (os : List (Option Outline)) (w : Setting) (line : ℕ) (x : Value) (name : List ℕ) → attribute (with_outlines os w) line x name ≡ attribute w line x name

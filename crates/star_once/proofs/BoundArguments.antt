@@ -85,7 +85,7 @@ KeysAre look [] [] = Unit {0}
 KeysAre look (n ∷ ns) (e ∷ es) = IsText look e.0 n.name × KeysAre look ns es
 KeysAre look _ _ = ⊥
 
-neither : (a b : Bool) → (a || b) ≡ false → (a ≡ false) × (b ≡ false)
+pub neither : (a b : Bool) → (a || b) ≡ false → (a ≡ false) × (b ≡ false)
 neither true b h = absurd (let no : ⊥ = cc in no)
 neither false b h = (refl, h)
 
@@ -100,7 +100,7 @@ text_of_cell look (value.Bool b) t u e f = absurd (let no : ⊥ = cc in no)
 text_of_cell look (value.Int n) t u e f = absurd (let no : ⊥ = cc in no)
 text_of_cell look (value.Builtin b) t u e f = absurd (let no : ⊥ = cc in no)
 
-texts_apart : (look : Value → Option Cell) (x y : Value) (t u : List ℕ) → IsText look x t → IsText look y u → same_name u t ≡ false → Apart look x y
+pub texts_apart : (look : Value → Option Cell) (x y : Value) (t u : List ℕ) → IsText look x t → IsText look y u → same_name u t ≡ false → Apart look x y
 texts_apart look x y t u a b other z p q = true_is_false (same_name u t) other ((bytes_eq-Decides u t).1 (text_of_cell look y u z b q ∙ sym (text_of_cell look x t z a p)))
 
 names_apart : (look : Value → Option Cell) (x : Value) (t : List ℕ) (ns : List KeywordArgument) (es : List (Value × Value)) → IsText look x t → is_given t ns ≡ false → KeysAre look ns es → ApartFrom look x es

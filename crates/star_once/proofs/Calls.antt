@@ -26,10 +26,12 @@ use Rattle.star_meaning.proofs.Stays as stays
 use Rattle.star_once.specs.Keys.{KeysDiffer}
 use Rattle.star_once.proofs.After.{After, Some_answer, after_then, given_now, held_then, plain}
 use Rattle.star_once.proofs.Dicts.{dict_of_differs, named_dict, pairs_of_after}
+use Rattle.star_once.proofs.Json.{decode_differs}
+use Rattle.star_meaning.proofs.KeepsJson.{respects-call_encode, respects-call_encode_indent}
 use Rattle.star_once.proofs.Arguments.{given_after}
 use Rattle.star_once.proofs.Keeps.{AllKeep, Keeps, KeepsWhere, VariablesKeep, keeps, once_by}
 use Rattle.star_meaning.proofs.KeepsArguments.{respects-none_or_one}
-use Rattle.star_meaning.proofs.KeepsAttributes.{respects-call_chr, respects-call_dir, respects-call_getattr, respects-call_hasattr, respects-call_ord, respects-call_struct}
+use Rattle.star_meaning.proofs.KeepsAttributes.{respects-call_chr, respects-call_dir, respects-call_getattr, respects-call_hasattr, respects-call_hash, respects-call_ord, respects-call_struct}
 use Rattle.star_meaning.proofs.KeepsBuiltIns.{respects-call_abs, respects-call_all, respects-call_any, respects-call_best, respects-call_bool, respects-call_enumerate, respects-call_fail, respects-call_int, respects-call_len, respects-call_list, respects-call_print, respects-call_range, respects-call_repr, respects-call_reversed, respects-call_sorted, respects-call_str, respects-call_tuple, respects-call_type, respects-call_zip}
 use Rattle.star_meaning.proofs.KeepsCallee.{respects-callee}
 use Rattle.star_meaning.proofs.KeepsOrders.{respects-asked_for_best, respects-asked_to_sort, respects-best_by, respects-sort_by}
@@ -121,8 +123,13 @@ built_in_differs w levels line built_in.Chr g s h n = (once_by (respects-call_ch
 built_in_differs w levels line built_in.Dir g s h n = (once_by (respects-call_dir w line g)).holds s h
 built_in_differs w levels line built_in.Getattr g s h n = (once_by (respects-call_getattr w line g)).holds s h
 built_in_differs w levels line built_in.Hasattr g s h n = (once_by (respects-call_hasattr w line g)).holds s h
+built_in_differs w levels line built_in.Hash g s h n = (once_by (respects-call_hash w line g)).holds s h
+built_in_differs w levels line built_in.Json g s h n = tt
 built_in_differs w levels line built_in.Ord g s h n = (once_by (respects-call_ord w line g)).holds s h
 built_in_differs w levels line built_in.Struct g s h n = (once_by {w = w} (respects-call_struct line g)).holds s h
+built_in_differs w levels line built_in.JsonDecode g s h n = decode_differs w levels line g s h
+built_in_differs w levels line built_in.JsonEncode g s h n = (once_by (respects-call_encode w levels line g)).holds s h
+built_in_differs w levels line built_in.JsonEncodeIndent g s h n = (once_by (respects-call_encode_indent w levels line g)).holds s h
 
 found_call : (w : Setting) (m : Semantics) (p : Site) (f : Function) (d : Definition) (o : Option (List (Name × BoundArgument))) (s : State) → AllKeep w m → KeysDiffer w s → ((xs : List (Name × BoundArgument)) → o ≡ Some xs → SharesOnce (seen w s) xs) → writes.Held w ((found code.Args p.line o >>= m.call p f d) s)
 found_call w m p f d None s k h a = tt

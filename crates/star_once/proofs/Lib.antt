@@ -1,6 +1,7 @@
 mod After
 mod Calls
 mod Dicts
+mod Json
 mod Arguments
 mod Keeps
 mod KeepsCalls

@@ -3,6 +3,7 @@ pub mod Contents
 pub mod Filling
 pub mod FirstEqual
 pub mod KindCases
+pub mod Names
 pub mod Ranges
 pub mod Shifts
 pub mod Slicing

@@ -11,7 +11,7 @@ use Rattle.star_operators.specs.declared.slices.Span.{Span}
 use Rattle.std.proofs.Common.{◌≡◌, ℕ, zero, suc, ◌+◌, ◌-◌, ◌<◌, List, [], ◌∷◌, ◌++◌, Option, Some, None, slice_get, pos, ◌+ℤ◌, ◌*ℤ◌, unsigned_abs, refl, ap, sym, ◌∙◌, append_assoc, arith}
 use Rattle.star_store.specs.declared.range.Range.{Range}
 use Rattle.star_operators.specs.Slices.{Parts, all_ascii, as_range, item_list, run}
-use Rattle.star_meaning.specs.Subscript.{is_boundary, is_whole, picked, places_from, places_of, sliced}
+use Rattle.star_meaning.specs.Subscript.{is_boundary, is_whole, picked, places_from, places_of, range_slice, sliced}
 use Rattle.star_store.specs.declared.values.Value.{Value}
 use Rattle.star_store.specs.declared.values.Cell.TheVariants as cell
 use Rattle.star_meaning.specs.Values.{Content, Held, new_list, new_tuple}
@@ -103,6 +103,10 @@ pub spread_cut : (t u : List ℕ) (r : Range) (n i : ℕ) → i < n → r.step �
 spread_cut t u r n i h s e k =
     let m = picked_more t r (n - i) (n - (i + 1)) i (omega arith) in
     is_whole_spread t r s ∙ ap all_ascii (sym e ∙ ap (λ ys. u ++ ys) m) ∙ ascii_cut u (item_list (slice_get t (place r i))) (picked t (places_from r (n - (i + 1)) (i + 1))) k
+
+-- slices of ranges
+pub sliced_range : (line : ℕ) (c : Content) (r : Range) (f : ℕ → Range) → Held (cell.Range r) ≡ c → sliced line c f ≡ range_slice line r (f (range_length r))
+sliced_range line c r f h = rw (← h) refl
 
 -- slices of lists and tuples
 pub sliced_list : (line : ℕ) (c : Content) (xs ys : List Value) (f : ℕ → Range) → Held (cell.List xs) ≡ c → ys ≡ picked xs (places_of (f (length xs))) → sliced line c f ≡ new_list line ys

@@ -1,6 +1,8 @@
 -- The places of a slice.
-use Rattle.std.specs.Prelude.{◌≡◌, ◌++◌, nat_lt, Bool, ℕ, true, false, List, [], ◌∷◌, Option, Some, None, neg_ℤ, pos, ◌≤ℤ◌}
+use Rattle.std.specs.Prelude.{◌≡◌, ◌++◌, nat_lt, Bool, ℕ, true, false, List, [], ◌∷◌, Option, Some, None, neg_ℤ, pos, ◌≤ℤ◌, ◌+ℤ◌, ◌*ℤ◌, Result, Ok, Err}
 use Rattle.std.specs.List.{list_all}
+use Rattle.star_store.specs.Arithmetic.{checked}
+use Rattle.star_store.specs.declared.fault.StoreFault.{StoreFault}
 use Rattle.star_store.specs.declared.range.Range.{Range}
 use Rattle.star_operators.specs.declared.slices.Span.{Span}
 use Rattle.star_meaning.specs.declared.fault.FaultCode.TheVariants as code
@@ -23,7 +25,18 @@ item_list None = []
 item_list (Some x) = x ∷ []
 
 abbrev pub slices_checked : Setting → ℕ → Value → Action (Unit {0})
-slices_checked w line x = with_content w x (λ d. check code.BadType line (has_slices d))
+slices_checked w line x = with_content w x (λ d. check code.BadType line (has_slices w.dialect d))
+
+-- the ints of a range at the places of another one; three steps, each of which may be refused
+abbrev pub then_with : {A B : Type 0} → Result A StoreFault → (A → Result B StoreFault) → Result B StoreFault
+then_with (Ok x) f = f x
+then_with (Err e) f = Err e
+
+abbrev pub range_part : Range → Range → Result Range StoreFault
+range_part r p =
+    then_with (checked (r.start +ℤ p.start *ℤ r.step)) (λ start.
+    then_with (checked (r.start +ℤ p.stop *ℤ r.step)) (λ stop.
+    then_with (checked (r.step *ℤ p.step)) (λ step. Ok (record { start = start; stop = stop; step = step }))))
 
 -- both ends are places of a number of items, or the end after them
 abbrev pub lies_within : ℕ → Span → Type 0

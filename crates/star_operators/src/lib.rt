@@ -3,7 +3,7 @@
 //! - `operators`: `+ - * // % & | ^ << >>` (`operate`) and `+ - ~ not` before an operand (`prefix`). It looks first
 //!   whether both operands are ints, since most are.
 //! - `comparisons`: `== != < > <= >=`, `in` and `not in` (`comparison`).
-//! - `percent`: `%` on a string.
+//! - `percent`: `%` on a string; `letters` makes the text of each value.
 //! - `subscript`: `x[i]` (`index`) and `x[i] = v` (`set_index`).
 //! - `slices`: `x[a:b:c]` (`slice`).
 //!
@@ -16,6 +16,7 @@
 #![tactic(auto)]
 
 pub mod comparisons;
+mod letters;
 pub mod operators;
 mod percent;
 pub mod slices;

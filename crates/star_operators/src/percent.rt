@@ -1,11 +1,13 @@
-//! `%` on a string: walks over the format, letter by letter.
+//! `%` on a string: walks over the format, letter by letter. The texts of values are made by `letters`.
 
-ghost use Rattle.std.specs.Prelude.{◌≡◌, [], false, IfOk};
+ghost use Rattle.std.specs.Prelude.{◌≡◌, ◌≤◌, [], IfOk, length};
 ghost use Rattle.star_machine.specs.Refines.{Refines};
-ghost use Rattle.star_operators.specs.Fills.{Fills, letter_put, percent_of};
+ghost use Rattle.star_operators.specs.Fills.{Fills, FillsOn, FillsPast, letter_put, percent_of};
 ghost use Rattle.star_meaning.specs.Percent as spec;
 ghost use Rattle.star_meaning.specs.Values.{content};
 
+use crate::letters::{format_letter, named_text};
+use star_dialect::Dialect;
 use star_machine::content::Content;
 use star_machine::cuts::{cut_at, first_ascii};
 use star_machine::fault::{EvalError, fault_at};
@@ -15,31 +17,6 @@ use star_meaning::fault::FaultCode;
 use star_store::values::{Cell, Value};
 use star_visit::draft::Draft;
 use std::alloc::AllocError;
-
-/// The text of one value for a letter: `s` and `r` make its two texts, `d` the text of an int. `BadValue` for another
-/// letter, `BadType` for `d` if the value is not an int. It is a draft, in which at most about `room` bytes of long
-/// strings are copied.
-fn format_letter(
-    machine: &mut Machine,
-    setting: &Setting,
-    levels: u32,
-    line: usize,
-    letter: u8,
-    value: Value,
-    room: usize,
-) -> Result<Draft, EvalError>
-    ensures { Refines (spec.format_letter setting.now levels line letter value machine.old) result machine.new }
-{
-    match letter {
-        b's' => machine.str(setting, levels, line, value, room),
-        b'r' => machine.repr(setting, levels, line, value, room),
-        b'd' => {
-            let _int = machine.want_int(setting, line, value)?;
-            machine.repr(setting, levels, line, value, room)
-        }
-        _ => Err(fault_at(FaultCode::BadValue, line)),
-    }
-}
 
 /// Puts the text that a letter after a `%` makes of the next value, or a `%` for another `%`. Returns the values that
 /// are left. `BadValue` if the letter needs a value and there is none.
@@ -68,18 +45,84 @@ fn put_letter<'v>(
     Ok(left)
 }
 
+/// Whether a name begins after a `%`: in the extended language, with `(`.
+fn opens(dialect: Dialect, letter: u8) -> bool
+    ensures { result ≡ spec.opens dialect letter }
+{
+    match dialect {
+        Dialect::Core => false,
+        Dialect::Extended => letter == b'(',
+    }
+}
+
+/// Puts the text of the value that a dictionary has for a name, which is in parentheses before a letter. Returns the rest
+/// of the format. `BadValue` if no `)` follows, or no letter after it.
+fn put_named<'f>(
+    machine: &mut Machine,
+    setting: &Setting,
+    levels: u32,
+    line: usize,
+    out: &mut Draft,
+    after: &'f str,
+    dict: Value,
+) -> Result<&'f str, EvalError>
+    ensures reads { FillsOn setting.now levels line dict
+        (spec.filled setting.now levels line dict (spec.Name []) after.now [] out.old machine.old)
+        result out.new machine.new }
+    ensures shorter { IfOk result (λ r. length r.now ≤ length after.now) }
+{
+    let Some((name, _close, after)) = cut_at(after, b')', b')') else {
+        return Err(fault_at(FaultCode::BadValue, line));
+    };
+    let Some((letter, more)) = first_ascii(after) else {
+        return Err(fault_at(FaultCode::BadValue, line));
+    };
+    let room = out.room();
+    let text = named_text(machine, setting, levels, line, dict, name, letter, room)?;
+    out.put_draft(text)?;
+    Ok(more)
+}
+
+/// Puts what a `%` and all that belongs to it make: the text of the next value for a letter, of a value by its name, or
+/// a `%`. Returns the rest of the format and the values that are left.
+fn put_format<'f, 'v>(
+    machine: &mut Machine,
+    setting: &Setting,
+    levels: u32,
+    line: usize,
+    out: &mut Draft,
+    after: &'f str,
+    right: Value,
+    values: &'v [Value],
+) -> Result<(&'f str, &'v [Value]), EvalError>
+    ensures reads { FillsPast setting.now levels line right
+        (spec.filled setting.now levels line right spec.Format after.now values.now out.old machine.old)
+        result out.new machine.new }
+    ensures shorter { IfOk result (λ r. length r.0.now ≤ length after.now) }
+{
+    let Some((letter, more)) = first_ascii(after) else {
+        return Err(fault_at(FaultCode::BadValue, line));
+    };
+    if opens(setting.dialect(), letter) {
+        let rest = put_named(machine, setting, levels, line, out, more, right)?;
+        return Ok((rest, &[]));
+    }
+    let left = put_letter(machine, setting, levels, line, out, letter, values)?;
+    Ok((more, left))
+}
+
 /// The format from left to right, with the texts of the values in place of its letters. `BadValue` for another letter,
 /// and for too few or too many values.
-#[tactic(auto, using(crate::proofs::Filling::filled_turn))]
 fn filled(
     machine: &mut Machine,
     setting: &Setting,
     levels: u32,
     line: usize,
     format: &str,
+    right: Value,
     values: &[Value],
 ) -> Result<Draft, EvalError>
-    ensures { Refines (spec.filled setting.now levels line false format.now values.now [] machine.old)
+    ensures { Refines (spec.filled setting.now levels line right spec.Between format.now values.now [] machine.old)
         result machine.new }
 {
     let mut out = Draft::new(machine.alloc(), machine.steps_left() as usize);
@@ -87,11 +130,11 @@ fn filled(
     let mut left = values;
     while let Some((before, _percent, after)) = cut_at(rest, b'%', b'%') {
         out.say(before)?;
-        let Some((letter, more)) = first_ascii(after) else {
-            return Err(fault_at(FaultCode::BadValue, line));
-        };
-        left = put_letter(machine, setting, levels, line, &mut out, letter, left)?;
+        let (more, others) = put_format(
+            machine, setting, levels, line, &mut out, after, right, left,
+        )?;
         rest = more;
+        left = others;
     }
     out.say(rest)?;
     if !left.is_empty() {
@@ -125,6 +168,14 @@ pub fn percent(
     let format = machine.copied_text(setting, text)?;
     let values = put_in(machine, setting, value)?;
     machine.pay(line, format.as_str().len() as u128)?;
-    let made = filled(machine, setting, levels, line, format.as_str(), &values)?;
+    let made = filled(
+        machine,
+        setting,
+        levels,
+        line,
+        format.as_str(),
+        value,
+        &values,
+    )?;
     machine.new_draft(line, made)
 }

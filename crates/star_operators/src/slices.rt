@@ -1,19 +1,24 @@
-//! `x[a:b:c]` of lists, tuples and strings.
+//! `x[a:b:c]` of lists, tuples, strings and, in the extended language, ranges.
 
 ghost use Rattle.std.specs.Prelude.{◌≡◌, ◌≢◌, ◌<◌, ◌≤◌, ◌+◌, ◌*◌, ◌+ℤ◌, ◌-ℤ◌, ◌*ℤ◌, ◌≤ℤ◌, ◌<ℤ◌, ◌++◌, IfOk, OnOk, false, length, neg_ℤ, pos, slice_get, string_bytes, true, unsigned_abs};
 ghost use Rattle.std.specs.Int.{int_gap};
+ghost use Rattle.star_store.specs.Arithmetic.{checked};
 ghost use Rattle.star_store.specs.Range.{range_length};
 ghost use Rattle.star_machine.specs.Refines.{Refines};
-ghost use Rattle.star_operators.specs.Slices.{Parts, Pushes, as_range, has_low_ends, item_list, lies_within, run, slices_checked};
+ghost use Rattle.star_operators.specs.Slices.{Parts, Pushes, as_range, has_low_ends, item_list, lies_within, range_part, run, slices_checked};
 ghost use Rattle.star_meaning.specs.Subscript as spec;
 ghost use Rattle.star_meaning.specs.Values.{content};
 
+use star_dialect::Dialect;
 use star_machine::content::Content;
-use star_machine::fault::{EvalError, fault_at};
+use star_machine::fault::{EvalError, fault_at, refused};
 use star_machine::machine::Machine;
 use star_machine::setting::Setting;
 use star_machine::slices::{bound_of, want_part};
 use star_meaning::fault::FaultCode;
+use star_store::arithmetic::{mul, narrow};
+use star_store::fault::StoreFault;
+use star_store::range::Range;
 use star_store::values::{Cell, Value, Values};
 use star_text::Text;
 use std::alloc::{AllocError, Global};
@@ -210,7 +215,52 @@ fn picked_text(alloc: Global, text: &str, span: Span) -> Result<Option<Text>, Al
     spread(alloc, text, span)
 }
 
-/// The part of a list, tuple or string at the places of a slice. `Cut` if it would cut a character, `BadType` for
+/// The int at a distance from another one. `Overflow` outside 64 bits.
+fn int_after(start: i64, distance: i128) -> Result<i64, StoreFault>
+    ensures { result ≡ checked (start +ℤ distance) }
+{
+    match (start as i128).checked_add(distance) {
+        Some(int) => narrow(int),
+        None => Err(StoreFault::Overflow),
+    }
+}
+
+/// The int that a range has at a place, also at one before or after all its ints. `Overflow` outside 64 bits.
+fn int_at(range: Range, place: i128) -> Result<i64, StoreFault>
+    ensures { result ≡ checked (range.start +ℤ place *ℤ range.step) }
+{
+    match place.checked_mul(range.step as i128) {
+        Some(distance) => int_after(range.start, distance),
+        None => Err(StoreFault::Overflow),
+    }
+}
+
+/// The ints of a range at the places of a span. `Overflow` for a bound or a step outside 64 bits.
+fn part_of_range(range: Range, span: Span) -> Result<Range, StoreFault>
+    ensures { result ≡ range_part range (as_range span) }
+{
+    let start = int_at(range, span.start)?;
+    let stop = int_at(range, span.stop)?;
+    let step = mul(range.step, span.step)?;
+    Ok(Range { start, stop, step })
+}
+
+/// The part of a range as a new range. `Overflow` for a bound or a step outside 64 bits.
+fn sliced_range(
+    machine: &mut Machine,
+    line: usize,
+    range: Range,
+    span: Span,
+) -> Result<Value, EvalError>
+    ensures { Refines (spec.range_slice line range (as_range span) machine.old) result machine.new }
+{
+    match part_of_range(range, span) {
+        Ok(part) => machine.build(line, 1, Cell::Range(part)),
+        Err(fault) => Err(refused(fault, line)),
+    }
+}
+
+/// The part of a list, tuple, string or range at the places of a slice. `Cut` if it would cut a character, `BadType` for
 /// another value.
 fn sliced(
     machine: &mut Machine,
@@ -242,7 +292,22 @@ fn sliced(
                 None => Err(fault_at(FaultCode::Cut, line)),
             }
         }
+        Content::Held(Cell::Range(range)) => {
+            let range = *range;
+            let span = span_of(range.len() as usize, start, stop, step);
+            sliced_range(machine, line, range, span)
+        }
         _ => Err(fault_at(FaultCode::BadType, line)),
+    }
+}
+
+/// Whether ranges have slices.
+fn has_range_slices(dialect: Dialect) -> bool
+    ensures { result ≡ spec.has_range_slices dialect }
+{
+    match dialect {
+        Dialect::Core => false,
+        Dialect::Extended => true,
     }
 }
 
@@ -259,6 +324,7 @@ fn check_slices(
         Content::Held(Cell::List(_)) => Ok(()),
         Content::Held(Cell::Tuple(_)) => Ok(()),
         Content::Held(Cell::Text(_)) => Ok(()),
+        Content::Held(Cell::Range(_)) if has_range_slices(setting.dialect()) => Ok(()),
         _ => Err(fault_at(FaultCode::BadType, line)),
     }
 }

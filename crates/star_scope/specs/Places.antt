@@ -32,7 +32,8 @@ core_names =
 -- the further names of the extended language
 abbrev pub further_names : Names
 further_names =
-    codes "chr" ∷ codes "dir" ∷ codes "getattr" ∷ codes "hasattr" ∷ codes "ord" ∷ codes "struct" ∷ []
+    codes "chr" ∷ codes "dir" ∷ codes "getattr" ∷ codes "hasattr" ∷ codes "hash" ∷ codes "json" ∷ codes "ord"
+    ∷ codes "struct" ∷ []
 
 -- the names of the outermost block of a dialect
 abbrev pub outermost_names : Dialect → Names

@@ -89,7 +89,9 @@ const OUTERMOST: [&str; 24] = [
 ];
 
 /// The further names of the outermost block of the extended language.
-const FURTHER: [&str; 6] = ["chr", "dir", "getattr", "hasattr", "ord", "struct"];
+const FURTHER: [&str; 8] = [
+    "chr", "dir", "getattr", "hasattr", "hash", "json", "ord", "struct",
+];
 
 fn is_among(mut names: &[&str], name: &str) -> bool
     ensures { result ≡ has_name (map (λ n. n.now) names.entry.now) name.now }

@@ -66,6 +66,11 @@ content_near look (suc n) v k h = in_value v h
     in_value (value.Builtin f) e = cc
     in_value (value.Ref h a) e = in_cell (look (value.Ref h a)) e
 
+-- neither does that of a string
+pub near_text : (t : List ℕ) → near (atom.Text t ∷ []) ≡ true
+unfolding near not_far
+near_text t = refl
+
 far_alone : (look : Value → Option Cell) (atoms k : List Atom) → near k ≡ true → is_far look atoms k ≡ false
 unfolding near not_far
 far_alone look atoms [] e = refl
@@ -106,7 +111,7 @@ shown_keeps : (s : Store) (look : Value → Option Cell) → Shows look s.home s
 shown_keeps s look h = record { texts = λ v t e. shown s look h v (cell.Text t) e; tuples = λ v xs e. shown s look h v (cell.Tuple xs) e; structs = λ v fs e. shown s look h v (cell.Struct fs) e }
 
 -- whether a key of an index has a content
-abbrev has_key : (Value → Option Cell) → List Atom → List Atom → Bool
+abbrev pub has_key : (Value → Option Cell) → List Atom → List Atom → Bool
 has_key look atoms k = pointwise same_atom atoms k || is_far look atoms k
 
 module _ (s : Store) (look : Value → Option Cell) (h : Shows look s.home s.cells) where
@@ -126,7 +131,7 @@ module _ (s : Store) (look : Value → Option Cell) (h : Shows look s.home s.cel
       ap (has_key look atoms) (sym q)
       ∙ ap (λ (b : Bool). b || same_content (Some atoms) (content look key_levels (value.Ref home at))) (not_same atoms home at n)
 
-  entry_tells : (atoms : List Atom) → near atoms ≡ true → (v : Value) (k : List Atom) → key_entry s v ≡ Some k → has_key look atoms k ≡ same_content (Some atoms) (content look key_levels v)
+  pub entry_tells : (atoms : List Atom) → near atoms ≡ true → (v : Value) (k : List Atom) → key_entry s v ≡ Some k → has_key look atoms k ≡ same_content (Some atoms) (content look key_levels v)
   entry_tells atoms n (value.Ref home at) k e = by (nat_eq home s.home) e
     where
       by : (b : Bool) → (if b then content (alone s) key_levels (value.Ref home at) else Some (atom.Far home at ∷ [])) ≡ Some k → has_key look atoms k ≡ same_content (Some atoms) (content look key_levels (value.Ref home at))
@@ -200,7 +205,7 @@ near_tests look atoms (k ∷ index) h =
     (sym (or_false (pointwise same_atom atoms k)) ∙ ap (λ (b : Bool). pointwise same_atom atoms k || b) (sym (no_number look atoms k one)))
     ∙ ap (λ (bs : List Bool). has_key look atoms k ∷ bs) (near_tests look atoms index rest)
 
-near_place : (look : Value → Option Cell) (atoms : List Atom) (index : List (List Atom)) → Covers [] index → place_by atoms index ≡ place_told look atoms index
+pub near_place : (look : Value → Option Cell) (atoms : List Atom) (index : List (List Atom)) → Covers [] index → place_by atoms index ≡ place_told look atoms index
 near_place look atoms index h = alike (pointwise same_atom atoms) (has_key look atoms) index index (near_tests look atoms index h)
 
 pub near_found : (look : Value → Option Cell) (key : Value) (atoms : List Atom) (c : Option Cell) (index : List (List Atom)) → content look key_levels key ≡ Some atoms → IsKnown look c index → Covers [] index → Places look key c (place_by atoms index)

@@ -10,5 +10,6 @@ pub mod Rows
 pub mod Store
 pub mod Structs
 pub mod Tables
+pub mod Texts
 pub mod Walks
 pub mod Writing

@@ -51,12 +51,15 @@ in_value look f x (value.Int n) = and_true (same_atom (scalar_atom x) (atom.Int 
 in_value look f x (value.Builtin b) = refl
 in_value look f x (value.Ref h a) = in_cell f x (look (value.Ref h a))
 
+-- a key has the content of a scalar exactly if its one atom is the scalar's
+pub scalar_content : (look : Value → Option Cell) (n : ℕ) (x : Scalar) (v : Value) → 0 < n → same_content (Some (scalar_atom x ∷ [])) (content look n v) ≡ is_only x (only_atom look v)
+scalar_content look n x v p = ap (same_content (Some (scalar_atom x ∷ []))) (content_at look n v p) ∙ in_value look (content look (n - 1)) x v
+
 scalar_same : (look : Value → Option Cell) (n : ℕ) (x : Scalar) (key v : Value) → 0 < n → only_atom look key ≡ Some (scalar_atom x) → same_key look n key v ≡ is_only x (only_atom look v)
 scalar_same look n x key v p h =
     same_keys look n key v
     ∙ ap (λ (o : Option (List Atom)). same_content o (content look n v)) (only_atom_is look n key (scalar_atom x) p h)
-    ∙ ap (same_content (Some (scalar_atom x ∷ []))) (content_at look n v p)
-    ∙ in_value look (content look (n - 1)) x v
+    ∙ scalar_content look n x v p
 
 tests : (look : Value → Option Cell) (n : ℕ) (x : Scalar) (key : Value) (es : List (Value × Value)) → 0 < n → only_atom look key ≡ Some (scalar_atom x) → map (λ e. is_only x (only_atom look e.0)) es ≡ map (λ e. same_key look n key e.0) es
 tests look n x key [] p h = refl

@@ -27,6 +27,10 @@ rises (n ∷ ns) = below_next n ns && rises ns
 abbrev pub risen : Fields → Option Fields
 risen fs = if rises (names_of fs) then Some fs else None
 
+-- whether a field comes before another, by the bytes of their names
+abbrev pub is_before : List ℕ × Value → List ℕ × Value → Bool
+is_before e f = is_lt (slice_cmp nat_cmp e.0 f.0)
+
 -- whether two rows of names are the same
 abbrev pub same_names : List (List ℕ) → List (List ℕ) → Bool
 same_names ns ms = pointwise (pointwise nat_eq) ns ms

@@ -14,7 +14,7 @@ use Rattle.star_store.specs.declared.content.Atom.TheVariants as atom
 use Rattle.star_store.specs.declared.arena.write.Change.{Change}
 use Rattle.star_store.specs.declared.arena.write.Change.TheVariants as change
 use Rattle.star_store.specs.Content.{content, same_atom, same_content}
-use Rattle.star_store.specs.Key.{key_levels, place_of, value_of}
+use Rattle.star_store.specs.Key.{key_levels, place_of, text_place, value_of}
 use Rattle.star_store.specs.Store.{Store, look}
 use Rattle.star_store.specs.Write.{cell_at}
 
@@ -136,3 +136,7 @@ PlacesAt look c at other place =
 -- the value of the entry at a place, if there is one
 abbrev pub value_at : List (Value × Value) → Option ℕ → Option Value
 value_at es place = option_and_then (λ i. option_map (λ e. e.1) (slice_get es i)) place
+
+-- a place is that of a string in a dictionary
+abbrev pub TextPlaces : (Value → Option Cell) → List ℕ → Option Cell → Option ℕ → Type 0
+TextPlaces look t c place = (es : List (Value × Value)) → c ≡ Some (cell.Dict es) → place ≡ text_place look t es

@@ -89,6 +89,22 @@ place_of look key es = position (λ e. same_key look key_levels key e.0) es
 abbrev pub value_of : (Value → Option Cell) → Value → List (Value × Value) → Option Value
 value_of look key es = option_and_then (λ i. option_map (λ e. e.1) (slice_get es i)) (place_of look key es)
 
+-- whether a value is the string of these bytes
+abbrev pub is_text_cell : List ℕ → Option Cell → Bool
+is_text_cell t (Some (cell.Text u)) = pointwise nat_eq t u
+is_text_cell t _ = false
+
+abbrev pub is_text : (Value → Option Cell) → List ℕ → Value → Bool
+is_text look t (value.Ref h a) = is_text_cell t (look (value.Ref h a))
+is_text look t _ = false
+
+-- the place of the entry whose key is the string of these bytes, and its value
+abbrev pub text_place : (Value → Option Cell) → List ℕ → List (Value × Value) → Option ℕ
+text_place look t es = position (λ e. is_text look t e.0) es
+
+abbrev pub text_value : (Value → Option Cell) → List ℕ → List (Value × Value) → Option Value
+text_value look t es = option_and_then (λ i. option_map (λ e. e.1) (slice_get es i)) (text_place look t es)
+
 -- each item in order, up to the first refusal
 abbrev pub check_each : (Value → Spend (Unit {0})) → List Value → Spend (Unit {0})
 check_each f [] = answer tt

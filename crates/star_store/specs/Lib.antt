@@ -6,12 +6,14 @@ pub mod Defaults
 pub mod Equal
 pub mod Fields
 pub mod Index
+pub mod Json
 pub mod Key
 pub mod Names
 pub mod Order
 pub mod Range
 pub mod Scalars
 pub mod Slots
+pub mod Sorting
 pub mod Spend
 pub mod Store
 pub mod Table

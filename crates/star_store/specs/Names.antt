@@ -1,12 +1,13 @@
 -- The names of the built-in functions and of the methods.
-use Rattle.std.specs.Prelude.{ℕ, List, codes}
+use Rattle.std.specs.Prelude.{ℕ, Bool, true, false, List, codes}
 use Rattle.star_store.specs.declared.names.BuiltIn.{BuiltIn}
 use Rattle.star_store.specs.declared.names.BuiltIn.TheVariants as built_in
 use Rattle.star_store.specs.declared.names.Method.{Method}
 use Rattle.star_store.specs.declared.names.Method.TheVariants as method
 use Rattle.star_strings.specs.Table as strings
 
--- the place among the built-in functions: those of the core come first, each in order of their names
+-- the place among the built-in functions: those of the core, those of the extended language, and the members of `json`,
+-- each in order of their names
 abbrev pub built_in_number : BuiltIn → ℕ
 built_in_number built_in.Abs = 0
 built_in_number built_in.All = 1
@@ -33,8 +34,13 @@ built_in_number built_in.Chr = 21
 built_in_number built_in.Dir = 22
 built_in_number built_in.Getattr = 23
 built_in_number built_in.Hasattr = 24
-built_in_number built_in.Ord = 25
-built_in_number built_in.Struct = 26
+built_in_number built_in.Hash = 25
+built_in_number built_in.Json = 26
+built_in_number built_in.Ord = 27
+built_in_number built_in.Struct = 28
+built_in_number built_in.JsonDecode = 29
+built_in_number built_in.JsonEncode = 30
+built_in_number built_in.JsonEncodeIndent = 31
 
 -- the name of a built-in function
 abbrev pub built_in_name : BuiltIn → List ℕ
@@ -63,8 +69,18 @@ built_in_name built_in.Chr = codes "chr"
 built_in_name built_in.Dir = codes "dir"
 built_in_name built_in.Getattr = codes "getattr"
 built_in_name built_in.Hasattr = codes "hasattr"
+built_in_name built_in.Hash = codes "hash"
+built_in_name built_in.Json = codes "json"
 built_in_name built_in.Ord = codes "ord"
 built_in_name built_in.Struct = codes "struct"
+built_in_name built_in.JsonDecode = codes "json.decode"
+built_in_name built_in.JsonEncode = codes "json.encode"
+built_in_name built_in.JsonEncodeIndent = codes "json.encode_indent"
+
+-- `json` is a module; each other one is a function
+abbrev pub is_function : BuiltIn → Bool
+is_function built_in.Json = false
+is_function _ = true
 
 -- the names of a method: the name of its receiver's type, and its own
 abbrev pub method_names : Method → List ℕ × List ℕ

@@ -12,10 +12,11 @@ use Rattle.star_store.specs.declared.values.Value.TheVariants as value
 use Rattle.star_store.specs.declared.values.Cell.{Cell}
 use Rattle.star_store.specs.declared.values.Cell.TheVariants as cell
 use Rattle.star_store.specs.declared.range.Range.{Range}
+use Rattle.star_store.specs.declared.names.BuiltIn.{BuiltIn}
 use Rattle.star_store.specs.declared.names.Method.{Method}
 use Rattle.star_store.specs.declared.fault.StoreFault.{StoreFault}
 use Rattle.star_store.specs.declared.fault.StoreFault.TheVariants.{Deep, Memory}
-use Rattle.star_store.specs.Names.{built_in_name, method_name, receiver_type}
+use Rattle.star_store.specs.Names.{built_in_name, is_function, method_name, receiver_type}
 use Rattle.star_store.specs.Spend.{Spend, Spent, Enough, Lacks, answer, spend_then, visited}
 
 -- a character as itself, or, below 32 and at 127, by its two lower-case hexadecimal digits
@@ -67,6 +68,12 @@ function_parts name = codes "<function " ∷ name ∷ codes ">" ∷ []
 
 abbrev pub built_in_parts : List ℕ → List (List ℕ)
 built_in_parts name = codes "<built-in function " ∷ name ∷ codes ">" ∷ []
+
+abbrev pub module_parts : List ℕ → List (List ℕ)
+module_parts name = codes "<module \"" ∷ name ∷ codes "\">" ∷ []
+
+abbrev pub parts_of_built_in : BuiltIn → List (List ℕ)
+parts_of_built_in b = if is_function b then built_in_parts (built_in_name b) else module_parts (built_in_name b)
 
 abbrev pub method_parts : Method → List (List ℕ)
 method_parts m = codes "<built-in method " ∷ method_name m ∷ codes " of " ∷ receiver_type m ∷ codes " value>" ∷ []
@@ -188,7 +195,7 @@ abbrev pub say_value : (Value → Option Cell) → (List Value → Value → Say
 say_value look f path value.NoneValue = say (codes "None")
 say_value look f path (value.Bool b) = say (bool_text b)
 say_value look f path (value.Int n) = say (signed_decimal n)
-say_value look f path (value.Builtin b) = say_parts (built_in_parts (built_in_name b))
+say_value look f path (value.Builtin b) = say_parts (parts_of_built_in b)
 say_value look f path (value.Ref h a) = say_cell f path (value.Ref h a) (look (value.Ref h a))
 
 -- the text of a value below a path, if this many levels may be opened: a value opens one, and then pays its visit

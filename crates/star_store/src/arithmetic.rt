@@ -66,7 +66,8 @@ fn whole(x: i64) -> Result<i64, StoreFault>
     Ok(x)
 }
 
-fn narrow(x: i128) -> Result<i64, StoreFault>
+/// An int of 64 bits. `Overflow` for another one.
+pub fn narrow(x: i128) -> Result<i64, StoreFault>
     ensures { result ≡ checked x }
 {
     if x < i64::MIN as i128 || x > i64::MAX as i128 {

@@ -82,6 +82,14 @@ impl KeyContent {
         }
     }
 
+    /// The content of a string.
+    pub(crate) fn of_text(text: &Text) -> Result<KeyContent, AllocError>
+        ensures { IfOk result (λ k. k ≡ atom.Text text.now ∷ []) }
+    {
+        let atoms = Atoms::One(Atom::Text(text.share()?));
+        Ok(KeyContent { atoms })
+    }
+
     /// The entry of an index for a key that another file made.
     pub(crate) fn far(home: u32, at: u32) -> KeyContent
         ensures { result ≡ atom.Far home at ∷ [] }

@@ -205,7 +205,7 @@ pub fn place_of(arena: &Arena, homes: &Homes, key: Value, entries: &Entries) -> 
 }
 
 /// The place of the entry whose key is a scalar.
-fn place_of_scalar<'a>(
+pub(crate) fn place_of_scalar<'a>(
     arena: &'a Arena,
     homes: &'a Homes<'a>,
     key: Scalar<'_>,

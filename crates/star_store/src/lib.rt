@@ -14,7 +14,7 @@
 //!   have a content. Without an index a look-up is a walk, with the same answer. The hashes begin with the arena's seed
 //!   (`seed.rt`).
 //! - `arithmetic` has the operations on ints of 64 bits, `slots` the variables of a frame, `fields` the names and
-//!   values of a struct, `roomy` vectors with free places at their front.
+//!   values of a struct, `layout` how JSON is laid out, `roomy` vectors with free places at their front.
 //!
 //! Begin at `values.rt`, then `arena.rt` and `arena/write.rt`.
 //!
@@ -36,6 +36,7 @@ mod globals;
 mod index;
 pub mod key;
 mod key_index;
+pub mod layout;
 pub mod names;
 pub mod range;
 mod roomy;

@@ -4,11 +4,11 @@
 //! `list.clear` and `dict.clear` are two.
 
 ghost use Rattle.std.specs.Prelude.{◌≡◌};
-ghost use Rattle.star_store.specs.Names.{built_in_name, built_in_number, method_name, receiver_type};
+ghost use Rattle.star_store.specs.Names.{built_in_name, built_in_number, is_function, method_name, receiver_type};
 
 use star_strings::table::StringMethod;
 
-/// A built-in function of the outermost block.
+/// A built-in function of the outermost block, the module `json` there, or a member of it.
 #[derive(Clone, Copy, Debug, PartialEq, Eq)]
 pub enum BuiltIn {
     Abs,
@@ -37,8 +37,15 @@ pub enum BuiltIn {
     Dir,
     Getattr,
     Hasattr,
+    Hash,
+    /// The module `json`: the only one here that is no function.
+    Json,
     Ord,
     Struct,
+    /// From here on the members of `json`.
+    JsonDecode,
+    JsonEncode,
+    JsonEncodeIndent,
 }
 
 /// A method, with the type of its receiver.
@@ -77,14 +84,22 @@ pub enum Method {
 }
 
 impl BuiltIn {
-    /// The place among the built-in functions: those of the core, in order of their names, come first.
+    /// The place among the built-in functions: those of the core come first, those of the extended language next, then
+    /// the members of `json`, each in order of their names.
     pub fn number(self) -> u8
         ensures { result ≡ built_in_number self }
     {
         self as u8
     }
 
-    /// Its name in the outermost block.
+    /// Whether it is a function: all but the module `json` are.
+    pub fn is_function(self) -> bool
+        ensures { result ≡ is_function self }
+    {
+        !matches!(self, BuiltIn::Json)
+    }
+
+    /// Its name: in the outermost block, or with that of its module before it.
     pub fn name(self) -> &'static str
         ensures { result.now ≡ built_in_name self }
     {
@@ -114,8 +129,13 @@ impl BuiltIn {
             BuiltIn::Dir => "dir",
             BuiltIn::Getattr => "getattr",
             BuiltIn::Hasattr => "hasattr",
+            BuiltIn::Hash => "hash",
+            BuiltIn::Json => "json",
             BuiltIn::Ord => "ord",
             BuiltIn::Struct => "struct",
+            BuiltIn::JsonDecode => "json.decode",
+            BuiltIn::JsonEncode => "json.encode",
+            BuiltIn::JsonEncodeIndent => "json.encode_indent",
         }
     }
 }

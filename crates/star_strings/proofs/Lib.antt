@@ -8,3 +8,5 @@ pub mod Windows
 pub mod CuttingBack
 pub mod Runs
 pub mod Endings
+pub mod Numbers
+pub mod Only

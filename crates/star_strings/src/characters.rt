@@ -3,6 +3,8 @@
 ghost use Rattle.std.specs.Prelude.{◌≡◌, IfOk, map};
 ghost use Rattle.std.specs.Char.{encode_utf8, is_ascii};
 ghost use Rattle.std.specs.List.{list_all};
+ghost use Rattle.std.specs.Str.{chars};
+ghost use Rattle.star_strings.specs.Characters as numbered;
 ghost use Rattle.star_strings.specs.Strings as spec;
 
 use crate::table::Answer;
@@ -10,8 +12,8 @@ use sqlite_items::Items;
 use star_text::Text;
 use std::alloc::{AllocError, Global};
 
-/// A string of one character.
-fn one(alloc: Global, c: char) -> Result<Text, AllocError>
+/// A string of one character. The error: an allocation failed.
+pub fn one(alloc: Global, c: char) -> Result<Text, AllocError>
     ensures { IfOk result (λ t. t ≡ encode_utf8 c) }
 {
     let mut made = String::new(alloc);
@@ -106,4 +108,28 @@ pub(crate) fn codepoint_ords(alloc: Global, text: &str) -> Result<Answer, AllocE
     ensures { IfOk result (λ a. a ≡ Answer.Numbers (spec.codepoint_ords text.now)) }
 {
     Ok(Answer::Numbers(character_numbers(alloc, text)?))
+}
+
+/// The character of a string that has just one.
+pub fn only_char(text: &str) -> Option<char>
+    ensures { result ≡ numbered.only_char (chars text.now) }
+{
+    let mut characters = text.chars();
+    match characters.next() {
+        None => None,
+        Some(only) => match characters.next() {
+            None => Some(only),
+            Some(_) => None,
+        },
+    }
+}
+
+/// The character of a number; `None` for a number that no character has.
+pub fn char_of(number: i64) -> Option<char>
+    ensures { result ≡ numbered.char_of number }
+{
+    match u32::try_from(number) {
+        Ok(number) => char::from_u32(number),
+        Err(_) => None,
+    }
 }

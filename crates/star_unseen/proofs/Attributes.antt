@@ -1,31 +1,36 @@
 -- Pairs of actions that do the same over two shelves: attributes, structs and characters.
-use Rattle.std.proofs.Common.{ℕ, ◌+◌, List, [], ◌∷◌, Option, Some, None, Bool, true, false, if◌then◌else◌, pos}
+use Rattle.std.proofs.Common.{ℕ, ◌+◌, List, [], ◌∷◌, length, Option, Some, None, Bool, true, false, if◌then◌else◌, pos}
 use Rattle.std.specs.Char.{encode_utf8}
 use Rattle.std.specs.Option.{is_some, option_map}
 use Rattle.std.specs.Str.{chars}
 use Rattle.star_store.specs.declared.values.Value.{Value}
 use Rattle.star_store.specs.declared.values.Value.TheVariants as value
 use Rattle.star_store.specs.declared.values.Cell.TheVariants as cell
+use Rattle.star_store.specs.declared.names.BuiltIn.{BuiltIn}
+use Rattle.star_store.specs.declared.names.BuiltIn.TheVariants as built_in
 use Rattle.star_store.specs.declared.names.Method.{Method}
-use Rattle.star_store.specs.Fields.{Fields, names_of, rises, risen}
+use Rattle.star_store.specs.Fields.{Fields, is_before, names_of, rises, risen}
 use Rattle.star_store.specs.Store.{global_of}
 use Rattle.star_dialect.specs.declared.Dialect.{Dialect}
 use Rattle.star_meaning.specs.declared.fault.FaultCode.TheVariants as code
 use Rattle.star_meaning.specs.declared.given.Arguments.{Arguments}
 use Rattle.star_meaning.specs.declared.given.KeywordArgument.{KeywordArgument}
 use Rattle.star_meaning.specs.Program.{Setting}
-use Rattle.star_meaning.specs.Values.{Content, Held, type_name}
-use Rattle.star_meaning.specs.Attributes.{Attribute, Field, OfType, attribute, attribute_in, attribute_names, attribute_or, attribute_value, call_dir, call_getattr, call_hasattr, method_of}
-use Rattle.star_meaning.specs.Characters.{call_chr, call_ord, char_of, only_char}
-use Rattle.star_meaning.specs.Sorting.{in_order, placed}
-use Rattle.star_meaning.specs.Structs.{call_struct, given_fields, is_before, names_cost}
+use Rattle.star_meaning.specs.Values.{BuiltInFunction, Content, Held, type_name}
+use Rattle.star_meaning.specs.Attributes.{Attribute, Field, OfType, attribute, attribute_in, attribute_names, attribute_or, attribute_value, call_dir, call_getattr, call_hasattr, members, method_of}
+use Rattle.star_strings.specs.Characters.{char_of, only_char}
+use Rattle.star_strings.specs.Ints.{hash}
+use Rattle.star_meaning.specs.Characters.{call_chr, call_hash, call_ord}
+use Rattle.star_store.specs.Sorting.{in_order}
+use Rattle.star_meaning.specs.Structs.{call_struct, given_fields, names_cost}
 use Rattle.star_unseen.specs.Veil.{Every, FieldsAreVisible, Hides, IsVisible, Maybe, VisibleIfThere}
 use Rattle.star_unseen.specs.Shelves.{Veil, with_other}
 use Rattle.star_unseen.proofs.Looks.{ContentIsVisible}
 use Rattle.star_unseen.proofs.Visible.{ArgumentsAreVisible, KeywordsAreVisible}
-use Rattle.star_unseen.proofs.Alike.{Alike, Any, alike_build, alike_content, alike_each, alike_found, alike_give, alike_then}
+use Rattle.star_unseen.proofs.Alike.{Alike, Any, alike_build, alike_content, alike_each, alike_found, alike_give, alike_pay, alike_then}
 use Rattle.star_unseen.proofs.Arguments.{alike-no_value, alike-only_one, alike-positional, alike-two, alike-two_or_three}
 use Rattle.star_unseen.proofs.Parts.{every_any}
+use Rattle.star_unseen.proofs.Rows.{every_in_order}
 use Rattle.star_unseen.proofs.Values.{any_found, alike-new_list, alike-new_text, alike-want_int, alike-want_text}
 use Rattle.star_unseen.proofs.Variables.{visible-global_of}
 
@@ -42,8 +47,13 @@ method_visible : (hides : Hides) (o : Option Method) → Maybe (AttributeIsVisib
 method_visible hides None = tt
 method_visible hides (Some m) = tt
 
+members_visible : (hides : Hides) (b : BuiltIn) → FieldsAreVisible hides (members b)
+members_visible hides built_in.Json = (tt, (tt, (tt, tt)))
+members_visible hides _ = tt
+
 pub visible-attribute_in : {w : Setting} (k : Veil w) (d : Dialect) (c : Content) (name : List ℕ) → ContentIsVisible k.hides c → Maybe (AttributeIsVisible k.hides) (attribute_in d c name)
 visible-attribute_in k d (Held (cell.Struct fs)) name h = field_visible k.hides (global_of name fs) (visible-global_of k.hides name fs h)
+visible-attribute_in k d (BuiltInFunction b) name h = field_visible k.hides (global_of name (members b)) (visible-global_of k.hides name (members b) (members_visible k.hides b))
 visible-attribute_in k d c name h = method_visible k.hides (method_of d (type_name c) name)
 
 pub alike-attribute_value : {w : Setting} (k : Veil w) (line : ℕ) (x : Value) (a : Attribute) → IsVisible k.hides x → AttributeIsVisible k.hides a → Alike k (IsVisible k.hides) (attribute_value line x a) (attribute_value line x a)
@@ -83,6 +93,11 @@ alike-call_ord k line g h =
     alike_then (alike_then (alike_then (alike-positional k line g h) (λ xs l. alike-only_one k line xs l)) (λ v l. alike-want_text k line v l)) (λ t _.
     alike_then (alike_found Any code.BadValue line (only_char (chars t)) (any_found _)) (λ c _. alike_give (IsVisible k.hides) (value.Int (pos c)) tt))
 
+pub alike-call_hash : {w : Setting} (k : Veil w) (line : ℕ) (g : Arguments) → ArgumentsAreVisible k.hides g → Alike k (IsVisible k.hides) (call_hash w line g) (call_hash (with_other k.other w) line g)
+alike-call_hash k line g h =
+    alike_then (alike_then (alike_then (alike-positional k line g h) (λ xs l. alike-only_one k line xs l)) (λ v l. alike-want_text k line v l)) (λ t _.
+    alike_then (alike_pay line (length t)) (λ _ _. alike_give (IsVisible k.hides) (value.Int (hash t)) tt))
+
 pub alike-call_chr : {w : Setting} (k : Veil w) (line : ℕ) (g : Arguments) → ArgumentsAreVisible k.hides g → Alike k (IsVisible k.hides) (call_chr w line g) (call_chr (with_other k.other w) line g)
 alike-call_chr k line g h =
     alike_then (alike_then (alike_then (alike-positional k line g h) (λ xs l. alike-only_one k line xs l)) (λ v l. alike-want_int k line v l)) (λ z _.
@@ -93,18 +108,6 @@ alike-call_chr k line g h =
 visible-given_fields : (hides : Hides) (ns : List KeywordArgument) → KeywordsAreVisible hides ns → FieldsAreVisible hides (given_fields ns)
 visible-given_fields hides [] h = tt
 visible-given_fields hides (n ∷ ns) h = (h.0.1, visible-given_fields hides ns h.1)
-
-every_choice : {A : Type 0} (P : A → Type 0) (b : Bool) (xs ys : List A) → Every P xs → Every P ys → Every P (if b then xs else ys)
-every_choice P true xs ys h k = h
-every_choice P false xs ys h k = k
-
-every_placed : {A : Type 0} (P : A → Type 0) (before : A → A → Bool) (x : A) (ys : List A) → P x → Every P ys → Every P (placed before x ys)
-every_placed P before x [] h k = (h, tt)
-every_placed P before x (y ∷ ys) h k = every_choice P (before y x) (y ∷ placed before x ys) (x ∷ y ∷ ys) (k.0, every_placed P before x ys h k.1) (h, k)
-
-every_in_order : {A : Type 0} (P : A → Type 0) (before : A → A → Bool) (xs : List A) → Every P xs → Every P (in_order before xs)
-every_in_order P before [] h = tt
-every_in_order P before (x ∷ xs) h = every_placed P before x (in_order before xs) h.0 (every_in_order P before xs h.1)
 
 visible-risen : (hides : Hides) (fs : Fields) (b : Bool) → FieldsAreVisible hides fs → Maybe (FieldsAreVisible hides) (if b then Some fs else None)
 visible-risen hides fs true h = h

@@ -16,9 +16,11 @@ use Rattle.star_meaning.specs.Run.{State, ◌>>=◌, check}
 use Rattle.star_meaning.specs.Arguments.{positional, only_one, none_or_one}
 use Rattle.star_meaning.specs.Program.{Setting}
 use Rattle.star_meaning.specs.Values.{Content, Truth, Number, Held, content, type_name, new_list}
-use Rattle.star_meaning.specs.BuiltIns.{absolute, call_abs, is_decided, some_item, call_all, call_any, truth_of, call_bool, call_dict, want_start, numbered, call_enumerate, want_separator, joined, print_line, call_print, call_fail, spelled, to_int, call_int, length_in, call_len, taken_from, call_list, call_tuple, call_reversed, best_of, best_in, candidates, call_best, new_range, range_of, is_range_count, call_range, call_repr, call_str, call_type, turned, sort, sort_items, call_sorted, least, row_at, call_zip, call_built_in}
+use Rattle.star_meaning.specs.BuiltIns.{absolute, call_abs, is_decided, some_item, call_all, call_any, truth_of, call_bool, call_dict, want_start, numbered, call_enumerate, want_separator, joined, print_line, call_print, call_fail, to_int, int_alone, one_base, int_by, int_with_base, int_of_dialect, call_int, length_in, call_len, taken_from, call_list, call_tuple, call_reversed, best_of, best_in, candidates, call_best, new_range, range_of, is_range_count, call_range, call_repr, call_str, call_type, turned, sort, sort_items, call_sorted, least, row_at, call_zip, call_built_in}
+use Rattle.star_meaning.specs.Spelling.{spelled}
 use Rattle.star_meaning.specs.Orders.{by_itself, can_sort, is_before}
-use Rattle.star_meaning.specs.Sorting.{in_order, placed}
+use Rattle.star_strings.specs.Ints.{base_of, int_in}
+use Rattle.star_store.specs.Sorting.{in_order, placed}
 use Rattle.star_unseen.specs.Veil.{AreVisible, Every, Hides, IsVisible, VisibleIfThere}
 use Rattle.star_unseen.specs.Shelves.{Veil, with_other}
 use Rattle.star_dialect.specs.declared.Dialect.{Dialect}
@@ -30,7 +32,8 @@ use Rattle.star_unseen.proofs.Visible.{ArgumentsAreVisible}
 use Rattle.star_unseen.proofs.Alike.{Alike, Any, alike_add_line, alike_build, alike_check, alike_collect, alike_content, alike_each, alike_fail, alike_found, alike_give, alike_pay, alike_seeing, alike_then, alike_until}
 use Rattle.star_unseen.proofs.Values.{any_found, alike-want_int, alike-want_text, alike-new_int, alike-new_text, alike-new_tuple, alike-new_list, alike-count_of, alike-take_item, alike-take_items, alike-take_all, alike-is_true, alike-compare, alike-repr, alike-str}
 use Rattle.star_unseen.proofs.Arguments.{alike-positional, alike-with_name, alike-only_one, alike-none_or_one, alike-one_or_two}
-use Rattle.star_unseen.proofs.Attributes.{alike-call_chr, alike-call_dir, alike-call_getattr, alike-call_hasattr, alike-call_ord, alike-call_struct}
+use Rattle.star_unseen.proofs.Attributes.{alike-call_chr, alike-call_dir, alike-call_getattr, alike-call_hasattr, alike-call_hash, alike-call_ord, alike-call_struct}
+use Rattle.star_unseen.proofs.Json.{alike-call_decode, alike-call_encode, alike-call_encode_indent}
 use Rattle.star_unseen.proofs.Pairs.{alike-pairs_count, alike-pairs_of, alike-dict_of}
 
 -- ---- rows
@@ -129,8 +132,32 @@ alike-to_int k line (Truth b) h = alike_give (IsVisible k.hides) (value.Int (if 
 alike-to_int k line (Held (cell.Text t)) h = alike_then (alike_found Any code.BadValue line (spelled t) (any_found (spelled t))) (λ z _. alike-new_int k line z)
 alike-to_int k line _ h = alike_fail Value (IsVisible k.hides) code.BadType line
 
+pub alike-int_alone : {w : Setting} (k : Veil w) (line : ℕ) (g : Arguments) → ArgumentsAreVisible k.hides g → Alike k (IsVisible k.hides) (int_alone w line g) (int_alone (with_other k.other w) line g)
+alike-int_alone k line g h = alike_then (one_of k line g h) (λ v l. alike_content (IsVisible k.hides) v _ _ l (λ c r. alike-to_int k line c r))
+
+pub alike-one_base : {w : Setting} (k : Veil w) (line : ℕ) (o p : Option Value) → VisibleIfThere k.hides o → VisibleIfThere k.hides p → Alike k (VisibleIfThere k.hides) (one_base line o p) (one_base line o p)
+alike-one_base k line None named h l = alike_give (VisibleIfThere k.hides) named l
+alike-one_base k line (Some b) None h l = alike_give (VisibleIfThere k.hides) (Some b) h
+alike-one_base k line (Some b) (Some c) h l = alike_fail (Option Value) (VisibleIfThere k.hides) code.Args line
+
+pub alike-int_by : {w : Setting} (k : Veil w) (line : ℕ) (v : Value) (o : Option Value) → IsVisible k.hides v → VisibleIfThere k.hides o → Alike k (IsVisible k.hides) (int_by w line v o) (int_by (with_other k.other w) line v o)
+alike-int_by k line v None h l = alike_content (IsVisible k.hides) v _ _ h (λ c r. alike-to_int k line c r)
+alike-int_by k line v (Some b) h l =
+    alike_then (alike-want_text k line v h) (λ t _. alike_then (alike-want_int k line b l) (λ n _.
+    alike_then (alike_found Any code.BadValue line (base_of n) (any_found (base_of n))) (λ base _.
+    alike_then (alike_found Any code.BadValue line (int_in base t) (any_found (int_in base t))) (λ z _. alike-new_int k line z))))
+
+pub alike-int_with_base : {w : Setting} (k : Veil w) (line : ℕ) (g : Arguments) → ArgumentsAreVisible k.hides g → Alike k (IsVisible k.hides) (int_with_base w line g) (int_with_base (with_other k.other w) line g)
+alike-int_with_base k line g h =
+    alike_then (alike-with_name k line (codes "base") g h) (λ a l. alike_then (alike-one_or_two k line a.0 l.0) (λ xs r.
+    alike_then (alike-one_base k line xs.1 a.1 r.1 l.1) (λ base q. alike-int_by k line xs.0 base r.0 q)))
+
+pub alike-int_of_dialect : {w : Setting} (k : Veil w) (line : ℕ) (g : Arguments) (d : Dialect) → ArgumentsAreVisible k.hides g → Alike k (IsVisible k.hides) (int_of_dialect w line g d) (int_of_dialect (with_other k.other w) line g d)
+alike-int_of_dialect k line g dialect.Core h = alike-int_alone k line g h
+alike-int_of_dialect k line g dialect.Extended h = alike-int_with_base k line g h
+
 pub alike-call_int : {w : Setting} (k : Veil w) (line : ℕ) (g : Arguments) → ArgumentsAreVisible k.hides g → Alike k (IsVisible k.hides) (call_int w line g) (call_int (with_other k.other w) line g)
-alike-call_int k line g h = alike_then (one_of k line g h) (λ v l. alike_content (IsVisible k.hides) v _ _ l (λ c r. alike-to_int k line c r))
+alike-call_int {w = w} k line g h = alike-int_of_dialect k line g w.dialect h
 
 pub alike-call_len : {w : Setting} (k : Veil w) (line : ℕ) (g : Arguments) → ArgumentsAreVisible k.hides g → Alike k (IsVisible k.hides) (call_len w line g) (call_len (with_other k.other w) line g)
 alike-call_len k line g h =
@@ -282,5 +309,10 @@ alike-call_built_in k levels line built_in.Chr g h = alike-call_chr k line g h
 alike-call_built_in k levels line built_in.Dir g h = alike-call_dir k line g h
 alike-call_built_in k levels line built_in.Getattr g h = alike-call_getattr k line g h
 alike-call_built_in k levels line built_in.Hasattr g h = alike-call_hasattr k line g h
+alike-call_built_in k levels line built_in.Hash g h = alike-call_hash k line g h
+alike-call_built_in k levels line built_in.Json g h = alike_fail Value (IsVisible k.hides) code.BadType line
 alike-call_built_in k levels line built_in.Ord g h = alike-call_ord k line g h
 alike-call_built_in k levels line built_in.Struct g h = alike-call_struct k line g h
+alike-call_built_in k levels line built_in.JsonDecode g h = alike-call_decode k levels line g h
+alike-call_built_in k levels line built_in.JsonEncode g h = alike-call_encode k levels line g h
+alike-call_built_in k levels line built_in.JsonEncodeIndent g h = alike-call_encode_indent k levels line g h

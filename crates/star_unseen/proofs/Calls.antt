@@ -33,6 +33,7 @@ use Rattle.std.specs.Ordering.{is_gt, is_lt}
 use Rattle.std.specs.declared.cmp.Ordering.{Ordering}
 use Rattle.star_store.specs.declared.names.BuiltIn.{BuiltIn}
 use Rattle.star_store.specs.declared.names.BuiltIn.TheVariants as built_in
+use Rattle.star_store.specs.Names.{is_function}
 use Rattle.star_meaning.specs.Orders.{by_itself}
 use Rattle.star_unseen.proofs.Visible.{ArgumentIsVisible, ArgumentsAreVisible, CalleeIsVisible, FunctionIsVisible, ShareIsVisible, SiteIsVisible}
 use Rattle.star_unseen.proofs.Looks.{ContentIsVisible}
@@ -64,7 +65,7 @@ alike-function_callee {w = w} k line f h =
 
 pub alike-callee_of : {w : Setting} (k : Veil w) (line : ℕ) (c : Content) → ContentIsVisible k.hides c → Alike k (CalleeIsVisible k.hides) (callee_of w line c) (callee_of (with_other k.other w) line c)
 alike-callee_of k line (Held (cell.Func f)) h = alike-function_callee k line f h
-alike-callee_of k line (BuiltInFunction b) h = alike_give (CalleeIsVisible k.hides) (ABuiltIn b) tt
+alike-callee_of k line (BuiltInFunction b) h = alike_then (alike_check code.BadType line (is_function b)) (λ _ _. alike_give (CalleeIsVisible k.hides) (ABuiltIn b) tt)
 alike-callee_of k line (Held (cell.Bound m x)) h = alike_give (CalleeIsVisible k.hides) (AMethod m x) h
 alike-callee_of k line _ h = alike_fail Callee (CalleeIsVisible k.hides) code.BadType line
 

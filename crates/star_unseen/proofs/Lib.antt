@@ -9,6 +9,7 @@ mod DictMethods
 mod Ended
 mod Expressions
 mod Format
+mod Json
 mod ListMethods
 mod Looks
 mod Methods

@@ -12,7 +12,8 @@ use Rattle.star_meaning.specs.Program.{Setting}
 use Rattle.star_meaning.specs.Values.{Content, Nothing, BuiltInFunction, Held, content}
 use Rattle.star_meaning.specs.Merging.{in_front, first_among, merged, halved, merge_sort}
 use Rattle.star_meaning.specs.Orders.{asked_for_best, asked_to_sort, best_by, best_pair, by_itself, can_sort, candidates_by, goes_first, is_before_by, is_of_sorted, key_in, precedes, sort_by, sorted_free, sorted_pairs, want_key, want_reverse}
-use Rattle.star_meaning.specs.Sorting.{in_order, placed}
+use Rattle.star_store.specs.Names.{is_function}
+use Rattle.star_store.specs.Sorting.{in_order, placed}
 use Rattle.star_unseen.specs.Veil.{AreVisible, Every, Hides, IsVisible, VisibleIfThere}
 use Rattle.star_unseen.specs.Shelves.{Veil, with_other}
 use Rattle.star_unseen.proofs.Looks.{same_content}
@@ -95,7 +96,7 @@ alike-want_reverse k line (Some v) h = alike-want_bool k line v h
 
 alike-key_in : {w : Setting} (k : Veil w) (line : ℕ) (v : Value) (c : Content) → IsVisible k.hides v → Alike k (VisibleIfThere k.hides) (key_in line v c) (key_in line v c)
 alike-key_in k line v Nothing h = alike_give {A = Option Value} (VisibleIfThere k.hides) None tt
-alike-key_in k line v (BuiltInFunction b) h = alike_give (VisibleIfThere k.hides) (Some v) h
+alike-key_in k line v (BuiltInFunction b) h = alike_then (alike_check code.BadType line (is_function b)) (λ _ _. alike_give (VisibleIfThere k.hides) (Some v) h)
 alike-key_in k line v (Held (cell.Func f)) h = alike_give (VisibleIfThere k.hides) (Some v) h
 alike-key_in k line v (Held (cell.Bound m x)) h = alike_give (VisibleIfThere k.hides) (Some v) h
 alike-key_in k line v _ h = alike_fail (Option Value) (VisibleIfThere k.hides) code.BadType line

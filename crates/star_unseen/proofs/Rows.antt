@@ -2,6 +2,7 @@
 use Rattle.std.proofs.Common.{◌≡◌, ℕ, zero, suc, List, [], ◌∷◌, ◌++◌, Option, Some, None, Bool, true, false, if◌then◌else◌, slice_get, slice_set, replicate, map, take, drop, subst}
 use Rattle.std.specs.List.{insert, remove}
 use Rattle.std.specs.Option.{option_map, option_and_then}
+use Rattle.star_store.specs.Sorting.{in_order, placed}
 use Rattle.star_unseen.specs.Veil.{Every, Maybe}
 
 pub every_get : {A : Type 0} (P : A → Type 0) (xs : List A) (i : ℕ) → Every P xs → Maybe P (slice_get xs i)
@@ -58,3 +59,17 @@ maybe_if P false o p h k = k
 -- the one that is there
 pub is_there : {A : Type 0} (P : A → Type 0) (o : Option A) (x : A) → Maybe P o → o ≡ Some x → P x
 is_there P o x h e = subst (Maybe P) e h
+
+-- ---- sorted rows
+
+every_choice : {A : Type 0} (P : A → Type 0) (b : Bool) (xs ys : List A) → Every P xs → Every P ys → Every P (if b then xs else ys)
+every_choice P true xs ys h k = h
+every_choice P false xs ys h k = k
+
+every_placed : {A : Type 0} (P : A → Type 0) (before : A → A → Bool) (x : A) (ys : List A) → P x → Every P ys → Every P (placed before x ys)
+every_placed P before x [] h k = (h, tt)
+every_placed P before x (y ∷ ys) h k = every_choice P (before y x) (y ∷ placed before x ys) (x ∷ y ∷ ys) (k.0, every_placed P before x ys h k.1) (h, k)
+
+pub every_in_order : {A : Type 0} (P : A → Type 0) (before : A → A → Bool) (xs : List A) → Every P xs → Every P (in_order before xs)
+every_in_order P before [] h = tt
+every_in_order P before (x ∷ xs) h = every_placed P before x (in_order before xs) h.0 (every_in_order P before xs h.1)

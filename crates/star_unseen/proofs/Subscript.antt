@@ -1,23 +1,24 @@
 -- Subscripts and slices over two shelves: each does the same, and leaves what is visible.
-use Rattle.std.proofs.Common.{◌≡◌, ℕ, ℤ, List, [], ◌∷◌, length, not, Option, Some, None, pos, slice_get, nat_lt, ap, subst, ◌∙◌}
+use Rattle.std.proofs.Common.{◌≡◌, ℕ, ℤ, List, [], ◌∷◌, length, not, Option, Some, None, pos, ◌+ℤ◌, ◌*ℤ◌, slice_get, nat_lt, ap, subst, ◌∙◌}
 use Rattle.std.specs.List.{cons_option}
 use Rattle.std.specs.Ordering.{int_eq}
 use Rattle.star_store.specs.declared.values.Value.{Value}
 use Rattle.star_store.specs.declared.values.Cell.TheVariants as cell
 use Rattle.star_store.specs.declared.arena.write.Change.TheVariants as change_to
 use Rattle.star_store.specs.declared.range.Range.{Range}
+use Rattle.star_store.specs.Arithmetic.{checked}
 use Rattle.star_store.specs.Range.{range_length}
 use Rattle.star_meaning.specs.declared.fault.FaultCode.{FaultCode}
 use Rattle.star_meaning.specs.declared.fault.FaultCode.TheVariants as code
 use Rattle.star_meaning.specs.Run.{State, found}
 use Rattle.star_meaning.specs.Program.{Setting}
 use Rattle.star_meaning.specs.Values.{Content, Held, content, item_in, place_in, value_in}
-use Rattle.star_meaning.specs.Subscript.{place_from, row_item, byte_at, entry_value, item_of, index, pay_if_new, entries_in, put_entry, set_item, set_entry, set_in, set_index, part_of, want_part, places_of, picked, is_whole, text_slice, sliced, has_slices, stride_of, slice_range, slice}
+use Rattle.star_meaning.specs.Subscript.{place_from, row_item, byte_at, entry_value, item_of, index, pay_if_new, entries_in, put_entry, set_item, set_entry, set_in, set_index, part_of, want_part, places_of, picked, is_whole, text_slice, range_slice, sliced, has_slices, stride_of, slice_range, slice}
 use Rattle.star_unseen.specs.Veil.{Every, IsVisible, Maybe, VisibleIfThere, PairsAreVisible, StateIsVisible}
 use Rattle.star_unseen.specs.Shelves.{Veil, with_other}
 use Rattle.star_unseen.proofs.Rows.{every_get}
 use Rattle.star_unseen.proofs.Looks.{ContentIsVisible, visible_content, same_content}
-use Rattle.star_unseen.proofs.Alike.{Alike, Any, alike_check, alike_content, alike_fail, alike_finds, alike_found, alike_give, alike_pay, alike_seeing, alike_then}
+use Rattle.star_unseen.proofs.Alike.{Alike, Any, alike_agreed, alike_build, alike_check, alike_content, alike_fail, alike_finds, alike_found, alike_give, alike_pay, alike_seeing, alike_then}
 use Rattle.star_unseen.proofs.Writes.{alike-change, alike-guard}
 use Rattle.star_unseen.proofs.Values.{any_found, alike-check_key, alike-new_list, alike-new_text, alike-new_tuple, alike-want_int, visible-item_in, visible-value_in, same-place_in, same-value_in}
 
@@ -102,15 +103,21 @@ visible-picked P xs (i ∷ is) h = visible_cons P (slice_get xs i) (picked xs is
 pub alike-text_slice : {w : Setting} (k : Veil w) (line : ℕ) (t : List ℕ) (r : Range) → Alike k (IsVisible k.hides) (text_slice line t r) (text_slice line t r)
 alike-text_slice k line t r = alike_then (alike_check code.Cut line (is_whole t r)) (λ _ _. alike-new_text k line (picked t (places_of r)))
 
+pub alike-range_slice : {w : Setting} (k : Veil w) (line : ℕ) (r p : Range) → Alike k (IsVisible k.hides) (range_slice line r p) (range_slice line r p)
+alike-range_slice k line r p =
+    alike_then (alike_agreed Any line (checked (r.start +ℤ p.start *ℤ r.step)) (λ x e. tt)) (λ start _. alike_then (alike_agreed Any line (checked (r.start +ℤ p.stop *ℤ r.step)) (λ x e. tt)) (λ stop _.
+    alike_then (alike_agreed Any line (checked (r.step *ℤ p.step)) (λ x e. tt)) (λ step _. alike_build line 1 (cell.Range (record { start = start; stop = stop; step = step })) tt)))
+
 pub alike-sliced : {w : Setting} (k : Veil w) (line : ℕ) (c : Content) (r : ℕ → Range) → ContentIsVisible k.hides c → Alike k (IsVisible k.hides) (sliced line c r) (sliced line c r)
 alike-sliced k line (Held (cell.List xs)) r h = alike-new_list k line (picked xs (places_of (r (length xs)))) (visible-picked (IsVisible k.hides) xs (places_of (r (length xs))) h)
 alike-sliced k line (Held (cell.Tuple xs)) r h = alike-new_tuple k line (picked xs (places_of (r (length xs)))) (visible-picked (IsVisible k.hides) xs (places_of (r (length xs))) h)
 alike-sliced k line (Held (cell.Text t)) r h = alike-text_slice k line t (r (length t))
+alike-sliced k line (Held (cell.Range s)) r h = alike-range_slice k line s (r (range_length s))
 alike-sliced k line _ r h = alike_fail Value (IsVisible k.hides) code.BadType line
 
 pub alike-slice : {w : Setting} (k : Veil w) (line : ℕ) (x : Value) (a b c : Option Value) → IsVisible k.hides x → VisibleIfThere k.hides a → VisibleIfThere k.hides b → VisibleIfThere k.hides c → Alike k (IsVisible k.hides) (slice w line x a b c) (slice (with_other k.other w) line x a b c)
 unfolding slice
-alike-slice k line x a b c hx ha hb hc = alike_then (alike_content Any x _ _ hx (λ d hd. alike_check code.BadType line (has_slices d))) (λ _ _.
+alike-slice {w = w} k line x a b c hx ha hb hc = alike_then (alike_content Any x _ _ hx (λ d hd. alike_check code.BadType line (has_slices w.dialect d))) (λ _ _.
     alike_then (alike-want_part k line a ha) (λ start _. alike_then (alike-want_part k line b hb) (λ stop _. alike_then (alike-want_part k line c hc) (λ stride _.
     alike_then (alike_check code.BadValue line (not (int_eq (stride_of stride) (pos 0)))) (λ _ _.
     alike_content (IsVisible k.hides) x _ _ hx (λ d hd. alike-sliced k line d (λ n. slice_range n start stop (stride_of stride)) hd))))))

@@ -1,6 +1,7 @@
 -- Alike over both shelves: what is read of values, new values, items of iterables, visits.
 use Rattle.std.proofs.Common.{◌≡◌, ℕ, ℤ, List, [], ◌+◌, length, Option, Some, None, Bool, true, false, if◌then◌else◌, nat_lt, slice_get, refl, ap, subst}
 use Rattle.star_store.specs.declared.values.Value.{Value}
+use Rattle.star_store.specs.declared.layout.Layout.{Layout}
 use Rattle.star_store.specs.declared.values.Value.TheVariants as value
 use Rattle.star_store.specs.declared.values.Cell.TheVariants as cell
 use Rattle.star_store.specs.Range.{range_length}
@@ -8,11 +9,11 @@ use Rattle.star_store.specs.Arithmetic.{checked}
 use Rattle.star_meaning.specs.declared.fault.FaultCode.TheVariants as code
 use Rattle.star_meaning.specs.Run.{State, give}
 use Rattle.star_meaning.specs.Program.{Setting, seen}
-use Rattle.star_meaning.specs.Values.{Content, Held, bare, bool_of, check_key, compare, count_in, count_of, equal, int_of, is_true, item_in, iterate, new_dict, new_int, new_list, new_text, new_tuple, place_in, repr, str, str_of, take_all, take_item, take_items, text_of, value_in, want_bool, want_int, want_text}
+use Rattle.star_meaning.specs.Values.{Content, Held, bare, bool_of, check_key, compare, count_in, count_of, equal, int_of, is_true, item_in, iterate, new_dict, new_int, new_list, new_text, new_tuple, place_in, repr, encoded, str, str_of, take_all, take_item, take_items, text_of, text_value, value_in, want_bool, want_int, want_text}
 use Rattle.star_unseen.specs.Veil.{AreVisible, IsVisible, Maybe, VisibleIfThere, PairIsVisible, PairsAreVisible, StateIsVisible}
 use Rattle.star_unseen.specs.Shelves.{Veil, with_other}
 use Rattle.star_unseen.proofs.Looks.{ContentIsVisible}
-use Rattle.star_unseen.proofs.Visits.{visible-value_of, same-check, same-order, same-place_of, same-same, same-text, same-truth, same-value_of}
+use Rattle.star_unseen.proofs.Visits.{visible-text_value, visible-value_of, same-check, same-order, same-place_of, same-same, same-json, same-text, same-text_value, same-truth, same-value_of}
 use Rattle.star_unseen.proofs.Writes.{looks}
 use Rattle.star_unseen.proofs.Alike.{Alike, Any, alike_agreed, alike_build, alike_collect, alike_content, alike_found, alike_give, alike_opened, alike_pay, alike_seeing, alike_then, alike_visiting}
 use Rattle.star_unseen.proofs.Rows.{every_get, maybe_map}
@@ -97,6 +98,10 @@ pub alike-repr : {w : Setting} (k : Veil w) (levels line : ℕ) (v : Value) → 
 unfolding repr
 alike-repr k levels line v h = alike_visiting line _ _ (λ s c. ap (λ f. f []) (same-text k.hides _ _ (looks k s c) levels [] v h))
 
+pub alike-encoded : {w : Setting} (k : Veil w) (levels line : ℕ) (l : Layout) (v : Value) → IsVisible k.hides v → Alike k Any (encoded w levels line l v) (encoded (with_other k.other w) levels line l v)
+unfolding encoded
+alike-encoded k levels line l v h = alike_visiting line _ _ (λ s c. ap (λ f. f []) (same-json k.hides _ _ (looks k s c) l levels 0 v h))
+
 pub alike-str_of : {w : Setting} (k : Veil w) (levels line : ℕ) (v : Value) (o : Option (List ℕ)) → IsVisible k.hides v → Alike k Any (str_of w levels line v o) (str_of (with_other k.other w) levels line v o)
 alike-str_of k levels line v (Some t) h = alike_visiting line (λ s. bare levels t) (λ s. bare levels t) (λ s c. refl)
 alike-str_of k levels line v None h = alike-repr k levels line v h
@@ -114,3 +119,10 @@ same-value_in k s x es c h d = same-value_of k.hides _ _ (looks k s c) x es h d
 
 pub visible-value_in : {w : Setting} (k : Veil w) (s : State) (x : Value) (es : List (Value × Value)) → PairsAreVisible k.hides es → VisibleIfThere k.hides (value_in w s x es)
 visible-value_in {w = w} k s x es d = visible-value_of k.hides (seen w s) x es d
+
+-- and the value of a string
+pub same-text_value_in : {w : Setting} (k : Veil w) (s : State) (x : List ℕ) (es : List (Value × Value)) → StateIsVisible k.hides w.home s → PairsAreVisible k.hides es → text_value w s x es ≡ text_value (with_other k.other w) s x es
+same-text_value_in k s x es c d = same-text_value k.hides _ _ (looks k s c) x es d
+
+pub visible-text_value_in : {w : Setting} (k : Veil w) (s : State) (x : List ℕ) (es : List (Value × Value)) → PairsAreVisible k.hides es → VisibleIfThere k.hides (text_value w s x es)
+visible-text_value_in {w = w} k s x es d = visible-text_value k.hides (seen w s) x es d

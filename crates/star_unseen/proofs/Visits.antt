@@ -11,12 +11,16 @@ use Rattle.star_store.specs.declared.values.Cell.TheVariants as cell
 use Rattle.star_store.specs.Spend.{Spend, all_places, answer, spend_then, visited}
 use Rattle.star_store.specs.Equal.{same, same_cells, same_entries, same_entry, same_found, same_items, same_pair, same_pairs, same_place, same_values}
 use Rattle.star_store.specs.Order.{order, order_cells, order_items, order_pair, order_place, order_places, order_values}
-use Rattle.star_store.specs.Fields.{names_of, same_names, values_of}
-use Rattle.star_store.specs.Key.{all_pass, check, check_cell, check_each, check_value, is_key, key_cell, key_levels, key_value, place_of, same_key, same_key_cell, same_key_items, same_key_pair, same_key_place, same_key_value, value_of}
+use Rattle.json.specs.Print.{quoted}
+use Rattle.star_store.specs.declared.layout.Layout.{Layout}
+use Rattle.star_store.specs.Fields.{Fields, is_before, names_of, same_names, values_of}
+use Rattle.star_store.specs.Json.{closing, colon, comma, json, line, members, name_in, named, put_array, put_cell, put_dict, put_member, put_named, put_object, put_place, put_value}
+use Rattle.star_store.specs.Sorting.{in_order}
+use Rattle.star_store.specs.Key.{all_pass, check, check_cell, check_each, check_value, is_key, is_text, is_text_cell, key_cell, key_levels, key_value, place_of, same_key, same_key_cell, same_key_items, same_key_pair, same_key_place, same_key_value, text_place, text_value, value_of}
 use Rattle.star_store.specs.Text.{Say, all_said, on_path, say, separator, tuple_end, say_cell, say_entries, say_entry, say_field, say_fields, say_item, say_named, say_items, say_pair, say_place, say_value, text, then_say}
 use Rattle.star_store.specs.Truth.{true_cell, truth}
 use Rattle.star_unseen.specs.Veil.{AreVisible, CellIsVisible, Every, FieldsAreVisible, Hides, IsVisible, Maybe, VisibleIfThere, PairIsVisible, PairsAreVisible}
-use Rattle.star_unseen.proofs.Rows.{every_get, maybe_map}
+use Rattle.star_unseen.proofs.Rows.{every_get, every_in_order, maybe_map}
 
 pub ext : {A B : Type 0} (f g : A → B) → ((x : A) → f x ≡ g x) → f ≡ g
 ext f g h = λ i x. h x i
@@ -98,6 +102,25 @@ same-value_of hides look other l key es c d = ap (option_and_then (λ i. option_
 
 pub visible-value_of : (hides : Hides) (look : Value → Option Cell) (key : Value) (es : List (Value × Value)) → PairsAreVisible hides es → VisibleIfThere hides (value_of look key es)
 visible-value_of hides look key es d = by (place_of look key es)
+  where
+    by : (o : Option ℕ) → VisibleIfThere hides (option_and_then (λ i. option_map (λ e. e.1) (slice_get es i)) o)
+    by None = tt
+    by (Some i) = maybe_map (PairIsVisible hides) (IsVisible hides) (λ e. e.1) (λ e p. p.1) (slice_get es i) (every_get _ es i d)
+
+-- a string is the same key, whatever is hidden
+text_cells : (text : List ℕ) (o p : Option Cell) → o ≡ p → is_text_cell text o ≡ is_text_cell text p
+text_cells text o p e = ap (is_text_cell text) e
+
+same-is_text : (hides : Hides) (look other : Value → Option Cell) → Looks hides look other → (text : List ℕ) (v : Value) → IsVisible hides v → is_text look text v ≡ is_text other text v
+same-is_text hides look other l text (value.Ref m a) c = text_cells text (look (value.Ref m a)) (other (value.Ref m a)) (l.agree (value.Ref m a) c)
+same-is_text hides look other l text _ c = refl
+
+pub same-text_value : (hides : Hides) (look other : Value → Option Cell) → Looks hides look other → (text : List ℕ) (es : List (Value × Value)) → PairsAreVisible hides es → text_value look text es ≡ text_value other text es
+same-text_value hides look other l text es d =
+    ap (option_and_then (λ i. option_map (λ e. e.1) (slice_get es i))) (same_position (PairIsVisible hides) _ _ (λ e p. same-is_text hides look other l text e.0 p.0) es d)
+
+pub visible-text_value : (hides : Hides) (look : Value → Option Cell) (text : List ℕ) (es : List (Value × Value)) → PairsAreVisible hides es → VisibleIfThere hides (text_value look text es)
+visible-text_value hides look text es d = by (text_place look text es)
   where
     by : (o : Option ℕ) → VisibleIfThere hides (option_and_then (λ i. option_map (λ e. e.1) (slice_get es i)) o)
     by None = tt
@@ -251,3 +274,62 @@ pub same-text : (hides : Hides) (look other : Value → Option Cell) → Looks h
 unfolding text
 same-text hides look other l zero = λ path v c. refl
 same-text hides look other l (suc n) = λ path v c. ap {B = Say} (λ (m : Say) out. visited (m out)) (value_said hides look other l (text look n) (text other n) (same-text hides look other l n) path v c)
+
+-- ---- JSON
+
+array_put : (hides : Hides) (l : Layout) (n : ℕ) (f g : Value → Say) → ((x : Value) → IsVisible hides x → f x ≡ g x) → (xs : List Value) → AreVisible hides xs → put_array l n f xs ≡ put_array l n g xs
+array_put hides l n f g h xs c = ap (λ (m : Say). then_say (say (codes "[")) (then_say m (say (closing l n (length xs) ++ codes "]"))))
+    (said_same (put_place l (n + 1) f xs) (put_place l (n + 1) g xs) (λ i. ap (then_say (say (comma i ++ line l (n + 1)))) (item_said hides f g h (slice_get xs i) (every_get _ xs i c))) (length xs) 0)
+
+named_put : (hides : Hides) (l : Layout) (f g : Value → Say) → ((x : Value) → IsVisible hides x → f x ≡ g x) → (o : Option (List ℕ × Value)) → Maybe (λ e. IsVisible hides e.1) o → put_named l f o ≡ put_named l g o
+named_put hides l f g h None c = refl
+named_put hides l f g h (Some e) c = ap (then_say (say (quoted e.0 ++ colon l))) (h e.1 c)
+
+object_put : (hides : Hides) (l : Layout) (n : ℕ) (f g : Value → Say) → ((x : Value) → IsVisible hides x → f x ≡ g x) → (fs : Fields) → FieldsAreVisible hides fs → put_object l n f fs ≡ put_object l n g fs
+object_put hides l n f g h fs c = ap (λ (m : Say). then_say (say (codes "{")) (then_say m (say (closing l n (length fs) ++ codes "}"))))
+    (said_same (put_member l (n + 1) f fs) (put_member l (n + 1) g fs) (λ i. ap (then_say (say (comma i ++ line l (n + 1)))) (named_put hides l f g h (slice_get fs i) (every_get _ fs i c))) (length fs) 0)
+
+names_same : (hides : Hides) (look other : Value → Option Cell) → Looks hides look other → (es : List (Value × Value)) → PairsAreVisible hides es → named look es ≡ named other es
+names_same hides look other l [] c = refl
+names_same hides look other l (e ∷ es) c =
+    ap (λ o. option_and_then (λ n. option_map (λ fs. (n, e.1) ∷ fs) (named look es)) (name_in o)) (l.agree e.0 c.0.0)
+    ∙ ap (λ r. option_and_then (λ n. option_map (λ fs. (n, e.1) ∷ fs) r) (name_in (other e.0))) (names_same hides look other l es c.1)
+
+visible_more : (hides : Hides) (o : Option (List ℕ)) (v : Value) (r : Option Fields) → IsVisible hides v → Maybe (FieldsAreVisible hides) r → Maybe (FieldsAreVisible hides) (option_and_then (λ n. option_map (λ fs. (n, v) ∷ fs) r) o)
+visible_more hides None v r h c = tt
+visible_more hides (Some n) v None h c = tt
+visible_more hides (Some n) v (Some fs) h c = (h, c)
+
+visible_named : (hides : Hides) (look : Value → Option Cell) (es : List (Value × Value)) → PairsAreVisible hides es → Maybe (FieldsAreVisible hides) (named look es)
+visible_named hides look [] c = tt
+visible_named hides look (e ∷ es) c = visible_more hides (name_in (look e.0)) e.1 (named look es) c.0.1 (visible_named hides look es c.1)
+
+visible_ordered : (hides : Hides) (o : Option Fields) → Maybe (FieldsAreVisible hides) o → Maybe (FieldsAreVisible hides) (option_map (in_order is_before) o)
+visible_ordered hides None c = tt
+visible_ordered hides (Some fs) c = every_in_order (λ e. IsVisible hides e.1) is_before fs c
+
+dict_put : (hides : Hides) (l : Layout) (n : ℕ) (f g : Value → Say) → ((x : Value) → IsVisible hides x → f x ≡ g x) → (o : Option Fields) → Maybe (FieldsAreVisible hides) o → put_dict l n f o ≡ put_dict l n g o
+dict_put hides l n f g h None c = refl
+dict_put hides l n f g h (Some fs) c = object_put hides l n f g h fs c
+
+-- the JSON of values, whatever is open
+abbrev WritesSame : Hides → (ℕ → Value → Say) → (ℕ → Value → Say) → Type 0
+WritesSame hides f g = (n : ℕ) (x : Value) → IsVisible hides x → f n x ≡ g n x
+
+cell_put : (hides : Hides) (look other : Value → Option Cell) → Looks hides look other → (l : Layout) (n : ℕ) (f g : ℕ → Value → Say) → WritesSame hides f g → (o : Option Cell) → Maybe (CellIsVisible hides) o → put_cell look l n f o ≡ put_cell other l n g o
+cell_put hides look other k l n f g h (Some (cell.Tuple xs)) c = array_put hides l n (f (n + 1)) (g (n + 1)) (h (n + 1)) xs c
+cell_put hides look other k l n f g h (Some (cell.List xs)) c = array_put hides l n (f (n + 1)) (g (n + 1)) (h (n + 1)) xs c
+cell_put hides look other k l n f g h (Some (cell.Dict es)) c =
+    dict_put hides l n (f (n + 1)) (g (n + 1)) (h (n + 1)) (members look es) (visible_ordered hides (named look es) (visible_named hides look es c))
+    ∙ ap (λ o. put_dict l n (g (n + 1)) (option_map (in_order is_before) o)) (names_same hides look other k es c)
+cell_put hides look other k l n f g h (Some (cell.Struct fs)) c = object_put hides l n (f (n + 1)) (g (n + 1)) (h (n + 1)) fs c
+cell_put hides look other k l n f g h _ c = refl
+
+value_put : (hides : Hides) (look other : Value → Option Cell) → Looks hides look other → (l : Layout) (n : ℕ) (f g : ℕ → Value → Say) → WritesSame hides f g → (v : Value) → IsVisible hides v → put_value look l n f v ≡ put_value other l n g v
+value_put hides look other k l n f g h (value.Ref m a) c = cell_put hides look other k l n f g h (look (value.Ref m a)) (k.visible (value.Ref m a) c) ∙ ap (put_cell other l n g) (k.agree (value.Ref m a) c)
+value_put hides look other k l n f g h _ c = refl
+
+pub same-json : (hides : Hides) (look other : Value → Option Cell) → Looks hides look other → (l : Layout) (levels : ℕ) → WritesSame hides (json look l levels) (json other l levels)
+unfolding json
+same-json hides look other k l zero = λ n v c. refl
+same-json hides look other k l (suc levels) = λ n v c. ap {B = Say} (λ (m : Say) out. visited (m out)) (value_put hides look other k l n (json look l levels) (json other l levels) (same-json hides look other k l levels) v c)

@@ -8,10 +8,13 @@
 ghost use Rattle.std.specs.Prelude.{◌≡◌, ◌≤◌, ◌<◌, ◌++◌, [], IfOk, IfSome, MatchOption, OnOk, length, string_bytes, take};
 ghost use Rattle.std.specs.Bool.{OnFalse, OnTrue};
 ghost use Rattle.std.specs.List.{flat_map};
+ghost use Rattle.json.specs.Print as json;
+ghost use Rattle.star_store.specs.Json.{begun};
 ghost use Rattle.star_store.specs.Text.{quoted};
 ghost use Rattle.star_visit.specs.Drafts.{head_bytes, part_bytes};
 
-use crate::quoted::put_quoted;
+use crate::line::{line_length, put_line};
+use crate::quoted::{put_json, put_quoted};
 use star_text::Text;
 use std::alloc::{AllocError, Global};
 use std::marker::Model;
@@ -29,6 +32,10 @@ pub(crate) enum Part {
     Shared(Text),
     /// A string in quotes.
     Quoted(Text),
+    /// A string as JSON.
+    Json(Text),
+    /// A line end and the beginning of a line: the prefix, and the indent this many times.
+    Line(Text, Text, u32),
 }
 
 /// A text that is not built yet. Contracts see it as its list of bytes.
@@ -55,18 +62,43 @@ impl Model for Draft {
 }
 
 /// Puts a part after a text.
-fn put_part(out: &mut String, part: &Part) -> Result<(), AllocError>
+fn put_part(alloc: Global, out: &mut String, part: &Part) -> Result<(), AllocError>
     ensures { OnOk result (string_bytes out.new ≡ string_bytes out.old ++ part_bytes part.now) }
 {
     match part {
         Part::Built(text) => out.push_str(text.as_str()),
         Part::Shared(text) => out.push_str(text.as_str()),
         Part::Quoted(text) => put_quoted(out, text.as_str()),
+        Part::Json(text) => put_json(alloc, out, text.as_str()),
+        Part::Line(prefix, indent, depth) => put_line(
+            out,
+            prefix.as_str(),
+            indent.as_str(),
+            *depth,
+        ),
+    }
+}
+
+/// Whether a part may be no longer than `room`. A line, which may be long though it takes one step, is measured before
+/// it is built.
+fn may_fit(part: &Part, room: usize) -> bool
+    ensures { OnFalse result (room < length (part_bytes part.now)) }
+{
+    match part {
+        Part::Line(prefix, indent, depth) => {
+            line_length(prefix.as_str(), indent.as_str(), *depth) <= room as u128
+        }
+        _ => true,
     }
 }
 
 /// Puts parts after a text, until it is longer than `room`: whether it is not.
-fn put_parts(out: &mut String, parts: &[Part], room: usize) -> Result<bool, AllocError>
+fn put_parts(
+    alloc: Global,
+    out: &mut String,
+    parts: &[Part],
+    room: usize,
+) -> Result<bool, AllocError>
     requires { length (string_bytes out.old) ≤ room }
     ensures whole { IfOk result (λ all. OnTrue all (string_bytes out.new
         ≡ string_bytes out.old ++ flat_map part_bytes parts.now)) }
@@ -77,7 +109,10 @@ fn put_parts(out: &mut String, parts: &[Part], room: usize) -> Result<bool, Allo
         (string_bytes out.old ++ flat_map part_bytes parts.now) ≡ string_bytes out.new) }
 {
     for part in parts {
-        put_part(out, part)?;
+        if !may_fit(part, room - out.len()) {
+            return Ok(false);
+        }
+        put_part(alloc, out, part)?;
         if out.len() > room {
             return Ok(false);
         }
@@ -112,7 +147,7 @@ fn built(
         return Ok(None);
     }
     let mut out = String::from_str(alloc, head)?;
-    if !put_parts(&mut out, parts, room)? {
+    if !put_parts(alloc, &mut out, parts, room)? {
         return Ok(None);
     }
     if tail.len() > room - out.len() {
@@ -202,6 +237,29 @@ impl Draft {
         self.share(Part::Quoted(text.share()?))
     }
 
+    /// Puts a string as JSON after the draft.
+    pub fn put_json(&mut self, text: &Text) -> Result<(), AllocError>
+        ensures { OnOk result (self.new ≡ self.old ++ json.quoted text.now) }
+    {
+        if text.as_str().len() <= SHORT || text.as_str().len() <= self.room {
+            self.room = self.room.saturating_sub(text.as_str().len());
+            return put_json(self.alloc, &mut self.tail, text.as_str());
+        }
+        self.share(Part::Json(text.share()?))
+    }
+
+    /// Puts a line end and the beginning of a line after the draft: the prefix, and the indent this many times.
+    pub fn put_line(&mut self, prefix: &Text, indent: &Text, depth: u32) -> Result<(), AllocError>
+        ensures { OnOk result (self.new ≡ self.old ++ begun prefix.now indent.now depth) }
+    {
+        let length = line_length(prefix.as_str(), indent.as_str(), depth);
+        if length <= self.room as u128 {
+            self.room = self.room.saturating_sub(length as usize);
+            return put_line(&mut self.tail, prefix.as_str(), indent.as_str(), depth);
+        }
+        self.share(Part::Line(prefix.share()?, indent.share()?, depth))
+    }
+
     /// No more than `room` bytes of long strings are copied from then on.
     fn keep_room(&mut self, room: usize)
         ensures { self.new ≡ self.old }
@@ -259,7 +317,7 @@ impl Draft {
         if head.len() > room {
             return Ok(out);
         }
-        if put_parts(&mut out, &self.parts, room)? {
+        if put_parts(self.alloc, &mut out, &self.parts, room)? {
             out.push_str(self.tail.as_str())?;
         }
         Ok(out)

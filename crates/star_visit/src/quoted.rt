@@ -1,10 +1,12 @@
-//! How a string is shown: in quotes, with escapes.
+//! How a string is shown, and how it is written as JSON: in quotes, with escapes.
 
 ghost use Rattle.std.specs.Prelude.{◌≡◌, ◌<◌, ◌++◌, OnOk, string_bytes};
 ghost use Rattle.std.specs.Char.{digit_char};
+ghost use Rattle.json.specs.Print as json;
 ghost use Rattle.star_store.specs.Text.{plain_char, quoted, shown, shown_char};
 
-use std::alloc::AllocError;
+use json::Writer;
+use std::alloc::{AllocError, Global};
 
 /// Puts a string in quotes after a text.
 pub(crate) fn put_quoted(out: &mut String, text: &str) -> Result<(), AllocError>
@@ -13,6 +15,20 @@ pub(crate) fn put_quoted(out: &mut String, text: &str) -> Result<(), AllocError>
     out.push('"')?;
     put_chars(out, text)?;
     out.push('"')
+}
+
+/// Puts a string as JSON after a text. What the writer wrote is UTF-8; were it not, the answer would be as for want of
+/// memory.
+#[tactic(auto, using(crate::proofs::Sheets::print_string))]
+pub(crate) fn put_json(alloc: Global, out: &mut String, text: &str) -> Result<(), AllocError>
+    ensures { OnOk result (string_bytes out.new ≡ string_bytes out.old ++ json.quoted text.now) }
+{
+    let mut writer = Writer::new(Vec::new(alloc));
+    writer.string(text)?;
+    match String::from_utf8(writer.into_inner()) {
+        Ok(written) => out.push_str(written.as_str()),
+        Err(_) => Err(AllocError),
+    }
 }
 
 /// Puts the characters of a string, as its text shows them, after a text.

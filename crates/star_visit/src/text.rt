@@ -5,7 +5,7 @@
 ghost use Rattle.std.specs.Prelude.{◌≡◌, ◌≤◌, ◌++◌, ◌∷◌, ◌-◌, [], OnOk, codes, take, vec_len};
 ghost use Rattle.std.specs.Fmt.{signed_decimal};
 ghost use Rattle.star_store.specs.Store.{look};
-ghost use Rattle.star_store.specs.Text.{Tells, after, all_bounds, bool_text, bounds_parts, built_in_parts, function_parts, method_parts, on_path, quoted, range_after, same_address, say_dict, say_entries, say_entry, say_field, say_fields, say_inside, say_items, say_list, say_new_dict, say_new_list, say_place, say_read, say_struct, say_tuple, say_within, separator, text, tuple_end};
+ghost use Rattle.star_store.specs.Text.{Tells, after, all_bounds, bool_text, bounds_parts, function_parts, method_parts, on_path, parts_of_built_in, quoted, range_after, same_address, say_dict, say_entries, say_entry, say_field, say_fields, say_inside, say_items, say_list, say_new_dict, say_new_list, say_place, say_read, say_struct, say_tuple, say_within, separator, text, tuple_end};
 ghost use Rattle.star_visit.specs.Pages.{Puts};
 
 use crate::draft::Draft;
@@ -14,7 +14,7 @@ use star_store::arena::{Arena, Homes};
 use star_store::budget::Budget;
 use star_store::fault::StoreFault;
 use star_store::fields::Fields;
-use star_store::names::Method;
+use star_store::names::{BuiltIn, Method};
 use star_store::range::Range;
 use star_store::values::{Cell, Entries, Value, Values};
 use star_text::Text;
@@ -97,7 +97,7 @@ fn put_value<'a>(
         Value::NoneValue => page.say("None")?,
         Value::Bool(b) => page.say_bool(b)?,
         Value::Int(n) => page.say_int(n)?,
-        Value::Builtin(b) => page.say_built_in(b.name())?,
+        Value::Builtin(b) => page.say_built_in(b)?,
         Value::Ref { .. } => {
             put_cell(arena, homes, levels, page, value, arena.read(homes, value))?;
         }
@@ -470,15 +470,20 @@ impl Page {
         self.say(digits.as_str())
     }
 
-    fn say_built_in(&mut self, name: &str) -> Result<(), AllocError>
+    fn say_built_in(&mut self, built_in: BuiltIn) -> Result<(), AllocError>
         ensures said { OnOk result (self.new.out
-            ≡ after self.old.out (built_in_parts name.now)) }
+            ≡ after self.old.out (parts_of_built_in built_in)) }
         ensures path { self.new.path.items ≡ self.old.path.items }
         ensures steps { self.new.steps ≡ self.old.steps }
     {
-        self.say("<built-in function ")?;
-        self.say(name)?;
-        self.say(">")
+        if built_in.is_function() {
+            self.say("<built-in function ")?;
+            self.say(built_in.name())?;
+            return self.say(">");
+        }
+        self.say("<module \"")?;
+        self.say(built_in.name())?;
+        self.say("\">")
     }
 
     fn say_function(&mut self, name: &Text) -> Result<(), AllocError>

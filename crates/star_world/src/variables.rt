@@ -154,7 +154,7 @@ fn core_built_in(name: &str) -> Option<Value>
     built_in_among(&functions, name)
 }
 
-/// The value of a name of a further built-in function of the extended language.
+/// The value of a name that the extended language has further: of a built-in function, or of the module `json`.
 fn further_built_in(name: &str) -> Option<Value>
     ensures { result ≡ global_of name.now (map (λ b. (built_in_name b, Value.Builtin b)) further_built_ins) }
 {
@@ -163,6 +163,8 @@ fn further_built_in(name: &str) -> Option<Value>
         BuiltIn::Dir,
         BuiltIn::Getattr,
         BuiltIn::Hasattr,
+        BuiltIn::Hash,
+        BuiltIn::Json,
         BuiltIn::Ord,
         BuiltIn::Struct,
     ];

@@ -8,18 +8,19 @@
 ghost use Rattle.std.specs.Prelude.{◌≡◌, IfSome, Some, length, option_and_then, slice_get};
 ghost use Rattle.std.specs.Option.{option_copied};
 ghost use Rattle.star_store.specs.Content.{content};
-ghost use Rattle.star_store.specs.Index.{IsIndexed, IsKnown, Places, PlacesAt, beside_at, entries_of, index_at, place_by, place_of_key, value_at};
-ghost use Rattle.star_store.specs.Key.{key_levels, place_of, value_of};
+ghost use Rattle.star_store.specs.Index.{IsIndexed, IsKnown, Places, PlacesAt, TextPlaces, beside_at, entries_of, index_at, place_by, place_of_key, value_at};
+ghost use Rattle.star_store.specs.Key.{key_levels, place_of, text_place, text_value, value_of};
 ghost use Rattle.star_store.specs.Store.{look};
 ghost use Rattle.star_store.specs.declared.values.Cell.TheVariants as cell;
 ghost use Rattle.star_store.specs.Write.{cell_at};
 
 use crate::arena::{Arena, Frozen, Homes};
-use crate::content::{content, scalar_key};
+use crate::content::{KeyContent, Scalar, ScalarKey, content, scalar_key};
 use crate::index::Index;
-use crate::key::{place_of, value_of};
+use crate::key::{place_of, place_of_scalar, value_of};
 use crate::key_index::{FEW_FAR, KeyIndex};
 use crate::values::{Cell, Entries, Value};
+use star_text::Text;
 
 impl Arena {
     /// The place of a dictionary's entry with this key; `None` if the value is not a dictionary.
@@ -88,6 +89,53 @@ impl Arena {
         match content(self.alloc, self, homes, key) {
             Ok(Some(content)) => self.place_told(homes, index, &content),
             Ok(None) => Some(None),
+            Err(_) => None,
+        }
+    }
+
+    /// The value that a dictionary has for a string of these bytes; `None` if the value is not a dictionary.
+    pub fn text_value(&self, homes: &Homes, dict: Value, text: &Text) -> Option<Value>
+        ensures { result ≡ text_value (look self.now homes.now) text.now (entries_of (look self.now homes.now dict)) }
+    {
+        let Some(Cell::Dict(entries)) = self.read(homes, dict) else {
+            return None;
+        };
+        let place = self.text_place(homes, dict, entries, text)?;
+        let (_key, value) = entries.get(place)?;
+        Some(value)
+    }
+
+    /// The place of a string among the entries of a dictionary: by its index if that can tell it, else by a walk.
+    fn text_place(
+        &self,
+        homes: &Homes,
+        dict: Value,
+        entries: &Entries,
+        text: &Text,
+    ) -> Option<usize>
+        requires { look self.now homes.now dict ≡ Some (cell.Dict entries.now) }
+        ensures { result ≡ text_place (look self.now homes.now) text.now entries.now }
+    {
+        match self.indexed_text(homes, dict, text) {
+            Some(place) => place,
+            None => place_of_scalar(self, homes, Scalar::Text(text), entries),
+        }
+    }
+
+    /// The place of the entry of a dictionary for a string, if the dictionary's index can tell it.
+    fn indexed_text(&self, homes: &Homes, dict: Value, text: &Text) -> Option<Option<usize>>
+        ensures { IfSome result (TextPlaces (look self.now homes.now) text.now (look self.now homes.now dict)) }
+    {
+        let index = self.index(homes, dict)?;
+        if index.is_near() {
+            let scalar = Scalar::Text(text);
+            return Some(index.keys().place_of_scalar(ScalarKey { scalar }));
+        }
+        if index.keys().len() < FEW_FAR {
+            return None;
+        }
+        match KeyContent::of_text(text) {
+            Ok(content) => self.place_told(homes, index, &content),
             Err(_) => None,
         }
     }

@@ -1,4 +1,4 @@
-use Rattle.std.proofs.Common.{arith, rules, ◌≡◌, ◌<◌, ◌-◌, ◌∙◌, ap, get_or, length, drop, subst, sym}
+use Rattle.std.proofs.Common.{arith, ◌≡◌, ◌<◌, ◌-◌, ◌∙◌, ap, get_or, length, drop, subst, sym}
 use Rattle.star_meaning.specs.Attributes as spec
 use Rattle.star_attribute.specs.Attributes.{shown_names}
 use Rattle.star_attribute.proofs.Once.{no_name, one_back}

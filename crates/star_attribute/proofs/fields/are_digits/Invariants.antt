@@ -1,6 +1,6 @@
 use Rattle.std.proofs.Common.{◌≡◌, drop}
 use Rattle.std.specs.List.{list_all}
-use Rattle.star_meaning.specs.BuiltIns.{is_digit}
+use Rattle.star_meaning.specs.Spelling.{is_digit}
 use Rattle.star_attribute.proofs.fields.are_digits.Given as goal
 
 abbrev pub invariant-loop-byte : goal.invariant-loop-byte

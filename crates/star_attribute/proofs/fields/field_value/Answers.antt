@@ -1,6 +1,6 @@
 use Rattle.std.proofs.Common.{◌≡◌, nat_eq, true, false, length, sym, rules}
 use Rattle.std.specs.List.{list_all}
-use Rattle.star_meaning.specs.BuiltIns.{is_digit}
+use Rattle.star_meaning.specs.Spelling.{is_digit}
 use Rattle.star_meaning.specs.Format.{is_field_name}
 use Rattle.star_attribute.proofs.fields.field_value.Goals as goal
 

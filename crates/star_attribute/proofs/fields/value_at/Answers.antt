@@ -1,5 +1,5 @@
 use Rattle.std.proofs.Common.{◌≡◌, ◌<◌, ◌≤◌, length, sym, arith}
-use Rattle.star_meaning.specs.BuiltIns.{number_from}
+use Rattle.star_meaning.specs.Spelling.{number_from}
 use Rattle.star_attribute.proofs.Places.{place_beyond, place_whole}
 use Rattle.star_attribute.proofs.fields.value_at.Goals as goal
 

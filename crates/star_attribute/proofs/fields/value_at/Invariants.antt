@@ -1,5 +1,5 @@
 use Rattle.std.proofs.Common.{◌≡◌, ◌≤◌, drop, length}
-use Rattle.star_meaning.specs.BuiltIns.{number_from}
+use Rattle.star_meaning.specs.Spelling.{number_from}
 use Rattle.star_attribute.proofs.fields.value_at.Given as goal
 
 abbrev pub invariant-loop-digit : goal.invariant-loop-digit

@@ -3,7 +3,7 @@ use Rattle.std.specs.Ordering.{is_lt}
 use Rattle.star_store.specs.declared.values.Value.{Value}
 use Rattle.star_builtin.specs.Orders.{by_keys}
 use Rattle.star_builtin.proofs.Keyed.{keyed_same, keyed_rank}
-use Rattle.star_builtin.proofs.Sorting.{sorted_by}
+use Rattle.star_visit.proofs.Sorting.{sorted_by}
 use Rattle.star_builtin.proofs.orders.in_order.Goals as goal
 
 pub returns : goal.returns

@@ -4,7 +4,7 @@ use Rattle.star_store.specs.declared.values.Value.{Value}
 use Rattle.star_meaning.specs.Values.{content}
 use Rattle.star_builtin.specs.Orders.{by_contents}
 use Rattle.star_builtin.proofs.Contents.{order_same, contents_rank}
-use Rattle.star_builtin.proofs.Sorting.{sorted_by}
+use Rattle.star_visit.proofs.Sorting.{sorted_by}
 use Rattle.star_builtin.proofs.sorted.in_order.Goals as goal
 
 pub returns : goal.returns

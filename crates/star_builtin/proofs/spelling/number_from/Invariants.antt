@@ -1,5 +1,5 @@
 use Rattle.std.proofs.Common.{◌≡◌, ◌<◌, ◌^◌, drop}
-use Rattle.star_meaning.specs.BuiltIns.{number_from}
+use Rattle.star_meaning.specs.Spelling.{number_from}
 use Rattle.star_builtin.proofs.spelling.number_from.Given as goal
 
 abbrev pub invariant-loop-digit : goal.invariant-loop-digit

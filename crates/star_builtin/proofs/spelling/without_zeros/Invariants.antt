@@ -1,6 +1,6 @@
 use Rattle.std.proofs.Common.{◌≡◌, length}
 use Rattle.std.specs.List.{list_all}
-use Rattle.star_meaning.specs.BuiltIns.{is_digit, number_from}
+use Rattle.star_meaning.specs.Spelling.{is_digit, number_from}
 use Rattle.star_builtin.proofs.spelling.without_zeros.Given as goal
 
 abbrev pub invariant-loop-rest : goal.invariant-loop-rest

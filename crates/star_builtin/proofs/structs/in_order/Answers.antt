@@ -1,7 +1,7 @@
 use Rattle.std.proofs.Common.{rules}
-use Rattle.star_meaning.specs.Structs.{is_before}
-use Rattle.star_builtin.proofs.Fields.{fields_rank}
-use Rattle.star_builtin.proofs.Sorting.{sorted_by}
+use Rattle.star_store.specs.Fields.{is_before}
+use Rattle.star_visit.proofs.Members.{fields_rank}
+use Rattle.star_visit.proofs.Sorting.{sorted_by}
 use Rattle.star_builtin.proofs.structs.in_order.Goals as goal
 
 pub returns : goal.returns

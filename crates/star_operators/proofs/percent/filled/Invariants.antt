@@ -1,12 +1,12 @@
-use Rattle.std.proofs.Common.{◌≡◌, [], length, false}
+use Rattle.std.proofs.Common.{◌≡◌, [], length}
 use denote.Shadow.{shadow}
 use denote.Text.{Utf8}
-use Rattle.star_meaning.specs.Percent.{filled}
+use Rattle.star_meaning.specs.Percent.{Between, filled}
 use Rattle.star_operators.proofs.percent.filled.Given as goal
 
 abbrev pub invariant-loop-before : goal.invariant-loop-before
 invariant-loop-before l = record {
-  rest : filled l.setting l.levels l.line false l.rest l.left l.out l.machine ≡ filled l.setting l.levels l.line false l.format l.values [] l.fn.machine;
+  rest : filled l.setting l.levels l.line l.right Between l.rest l.left l.out l.machine ≡ filled l.setting l.levels l.line l.right Between l.format l.values [] l.fn.machine;
   text : shadow (Utf8 l.rest);
 }
 
