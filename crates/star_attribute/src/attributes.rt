@@ -152,6 +152,7 @@ pub enum Attribute {
 }
 
 /// The attribute with a name that a value has in a dialect.
+#[inline(always)]
 pub fn attribute_in(dialect: Dialect, content: Content, name: &str) -> Option<Attribute>
     ensures { option_map attribute_of result ≡ spec.attribute_in dialect (shown content.entry) name.now }
 {
@@ -191,6 +192,7 @@ pub fn attribute_value(
 
 /// `x.m`: the value of a field of a struct, a member of `json`, or a new bound method, for which 1 is paid. `BadType` if
 /// the value has no attribute with this name.
+#[inline(always)]
 #[tactic(auto, unfolding(star_meaning::specs::Attributes::attribute))]
 pub fn read_attribute(
     machine: &mut Machine,

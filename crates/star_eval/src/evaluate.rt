@@ -564,6 +564,7 @@ fn call_built_in_on(
 }
 
 /// A plain call with evaluated arguments: a function's are bound, or `Args`; then it runs, at a level of its own.
+#[inline(never)]
 #[cycle(run)]
 pub(crate) fn call_plainly(
     machine: &mut Machine,
@@ -598,6 +599,7 @@ pub(crate) fn call_plainly(
 
 /// A call of a function: its arguments are bound, or `Args`; then it runs. Where each parameter gets the value at its
 /// own place, or the parameters have a layout, they are not bound one by one.
+#[inline(always)]
 #[cycle(run)]
 #[tactic(auto, using(star_enter::proofs::Positional::bound_positional))]
 fn call_function(

@@ -12,7 +12,7 @@ use star_serve::serve::{Form, Options, Output, Style, Wanted};
 use std::alloc::{AllocError, Global};
 
 /// The words of `--version` after the program's name: its version, and the kit that proved it.
-const VERSION: &str = "1.9.0 (rattle-kit-13f logic dac8208d650f15bf)";
+const VERSION: &str = "1.10.0 (rattle-kit-13f logic dac8208d650f15bf)";
 
 /// The end of the help, after the options.
 const EXAMPLE: &str =
