@@ -1,5 +1,8 @@
 //! Cycles of loads, as text: the load statements along each, one after another.
 
+ghost use Rattle.std.specs.Prelude.{◌≡◌, ◌+◌, ◌≤◌, IfOk, OnOk, sum_by, length, vec_len};
+ghost use Rattle.star_explain.specs.Unseen.{kept};
+
 use crate::ends::{End, Ends};
 use crate::entry::Entry;
 use crate::trail::mark_of_line;
@@ -22,29 +25,54 @@ pub(crate) struct Cycles {
     orders: Vec<usize>,
 }
 
+/// The loads of each file.
+fn unseen_in<'a>(
+    alloc: Global,
+    loads: &'a [Vec<usize>],
+) -> Result<Vec<Option<&'a [usize]>>, AllocError> {
+    let mut unseen = Vec::with_capacity(alloc, loads.len())?;
+    for of in loads {
+        unseen.push(Some(of.as_slice()))?;
+    }
+    Ok(unseen)
+}
+
+/// The loads of a file that is come to for the first time. They are kept no longer.
+fn first_seen<'a>(unseen: &mut Vec<Option<&'a [usize]>>, n: usize) -> Option<&'a [usize]>
+    ensures { sum_by kept unseen.new.items + kept result ≤ sum_by kept unseen.old.items }
+{
+    match unseen.get_mut(n) {
+        Some(place) => place.take(),
+        None => None,
+    }
+}
+
+/// Puts files on the stack, the first of them on top.
+fn push_files(todo: &mut Vec<usize>, files: &[usize]) -> Result<(), AllocError>
+    ensures { OnOk result (vec_len todo.new ≡ vec_len todo.old + length files.now) }
+{
+    for i in (0..files.len()).rev() {
+        todo.push(files[i])?;
+    }
+    Ok(())
+}
+
 /// In which order the roots come to the files, by the loads of each one in order.
 fn orders_of(alloc: Global, ends: &Ends, roots: &[usize]) -> Result<Vec<usize>, AllocError> {
     let mut orders = vec![in alloc; usize::MAX; ends.ends.len()]?;
+    let mut unseen = unseen_in(alloc, ends.loads.as_slice())?;
     let mut todo: Vec<usize> = Vec::new(alloc);
-    for root in roots.iter().rev() {
-        todo.push(*root)?;
-    }
-    for turn in 0..usize::MAX {
-        let Some(n) = todo.pop() else {
-            break;
-        };
-        let Some(order) = orders.get_mut(n) else {
+    push_files(&mut todo, roots)?;
+    let mut come = 0;
+    while let Some(n) = todo.pop() {
+        let Some(loads) = first_seen(&mut unseen, n) else {
             continue;
         };
-        if *order < usize::MAX {
-            continue;
+        if let Some(order) = orders.get_mut(n) {
+            *order = come;
         }
-        *order = turn;
-        if let Some(loads) = ends.loads.get(n) {
-            for load in loads.iter().rev() {
-                todo.push(*load)?;
-            }
-        }
+        come = come.saturating_add(1);
+        push_files(&mut todo, loads)?;
     }
     Ok(orders)
 }

@@ -1,2 +1,3 @@
--- The schedule of files.
+-- The schedule of files, and what a search keeps.
 pub mod Schedules
+pub mod Searches

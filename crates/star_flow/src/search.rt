@@ -9,6 +9,9 @@
 //! of these parts grow to the largest share. The last reader that is awake goes on in any case, and only readers that
 //! have begun have a share. So nobody waits for a thread that the system starts late, or not at all.
 
+ghost use Rattle.std.specs.Prelude.{◌+◌, ◌≤◌, IfOk, sum_by};
+ghost use Rattle.star_flow.specs.Searches.{kept, loads_in};
+
 use std::alloc::{AllocError, Global};
 use std::sync::{Condvar, Mutex, MutexGuard, Wait};
 
@@ -85,7 +88,10 @@ impl Files {
     }
 
     /// A file is reached. Answers the files that it loads, if it was read ahead.
-    fn find(&mut self, n: usize) -> Result<Option<Vec<usize>>, AllocError> {
+    fn find(&mut self, n: usize) -> Result<Option<Vec<usize>>, AllocError>
+        ensures { IfOk result (λ loads. sum_by kept self.new.states.items + loads_in loads
+            ≤ sum_by kept self.old.states.items) }
+    {
         if n >= self.states.len() {
             return Ok(None);
         }
@@ -112,10 +118,7 @@ impl Files {
     /// These files are reached, and so are those to which loads lead from files that were read ahead.
     fn find_all(&mut self, found: Vec<usize>) -> Result<(), AllocError> {
         let mut todo = found;
-        for _turn in 0..usize::MAX {
-            let Some(n) = todo.pop() else {
-                return Ok(());
-            };
+        while let Some(n) = todo.pop() {
             if let Some(loads) = self.find(n)? {
                 todo.extend_from_slice(&loads)?;
             }

@@ -1,11 +1,10 @@
 use Rattle.std.proofs.Common.{◌≡◌, ◌-◌, suc, subst, sym, ap, ◌∙◌, rules, arith}
-use Rattle.std.proofs.lemmas.List.{drop_more}
 use Rattle.json.specs.Value.{members_view, value_view}
 use Rattle.json.specs.Json.{object}
 use Rattle.json.proofs.Trees.{view-Object}
 use Rattle.star_meaning.specs.Json.{decoded}
 use Rattle.star_machine.specs.Refines.{Refines}
-use Rattle.star_builtin.proofs.Decoded.{decoded_step, member_more}
+use Rattle.star_builtin.proofs.Decoded.{decoded_step, member_more, next_item}
 use Rattle.star_builtin.proofs.decoding.+decode.Goals as goal
 
 pub built-returns-in_ok-entries-in-Object : goal.built-returns-in_ok-entries-in-Object
@@ -28,5 +27,5 @@ decoded-returns t c =
 
 pub entries_of-loop-member-preserved : goal.entries_of-loop-member-preserved
 entries_of-loop-member-preserved t c =
-    let next = ap members_view (drop_more c.args.members.now c.loop-member.member-index _ c.loop-member-test.true) in
+    let next = ap members_view (next_item c.args.members.now c.loop-member.member-index c.member-item.result c.loop-member-test.true c.member-item.is) in
     member_more c.args.line (decoded c.args.line c.args.levels) c.loop-member.before c.new_name.new.before _ _ _ _ _ _ _ _ _ _ _ _ next c.in_ok-key.ensures.answer c.in_ok-value.ensures c.in_ok-key.ensures.before c.in_ok-push.ensures.pushed c.loop-member.invariant
