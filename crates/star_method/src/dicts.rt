@@ -81,14 +81,22 @@ fn pairs_up(
 fn keys_of(alloc: Global, entries: &[(Value, Value)]) -> Result<Vec<Value>, AllocError>
     ensures { IfOk result (λ v. v.items ≡ map (λ e. e.0) entries.now) }
 {
-    entries.iter().map(|entry| entry.0).collect(alloc)
+    let mut keys = Vec::with_capacity(alloc, entries.len())?;
+    for entry in entries {
+        keys.push(entry.0)?;
+    }
+    Ok(keys)
 }
 
 /// The values of entries.
 fn values_of(alloc: Global, entries: &[(Value, Value)]) -> Result<Vec<Value>, AllocError>
     ensures { IfOk result (λ v. v.items ≡ map (λ e. e.1) entries.now) }
 {
-    entries.iter().map(|entry| entry.1).collect(alloc)
+    let mut values = Vec::with_capacity(alloc, entries.len())?;
+    for entry in entries {
+        values.push(entry.1)?;
+    }
+    Ok(values)
 }
 
 /// The parts of a dictionary's entries that a method lists: the entries, their keys or their values.
