@@ -8,3 +8,5 @@ pub mod Splits
 pub mod Reading
 pub mod Gathering
 pub mod Writing
+pub mod Data
+pub mod Found

@@ -10,6 +10,7 @@
 
 mod entry;
 mod joined;
+mod law;
 mod line;
 mod lines;
 mod members;
@@ -17,4 +18,5 @@ mod place;
 mod refusal;
 
 pub use joined::{Joined, join};
+pub use law::{objects_are_entries, objects_end};
 pub use refusal::Refusal;
