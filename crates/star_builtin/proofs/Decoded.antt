@@ -36,9 +36,9 @@ pub member_more : (line : ℕ) (f : Json → Action Value) (before after : List 
     → with_front front (decoded_members line f before ms s) ≡ whole → with_front entries (decoded_members line f after rest u) ≡ whole
 member_more line f before after ms rest name j s t u front entries k v whole next new done more pushed held =
     let after_name : decoded_members line f before (member name j rest) s ≡ and_then (f j t) (λ x. λ w. and_then (decoded_members line f (name ∷ before) rest w) (λ es. give ((k, x) ∷ es))) =
-        named (new_text line name s) (check code.Key line (not (list_any (same_name name) before))) (λ z. λ w. and_then (f j w) (λ x. λ y. and_then (decoded_members line f (name ∷ before) rest y) (λ es. give ((z, x) ∷ es)))) k t new in
+    named (new_text line name s) (check code.Key line (not (list_any (same_name name) before))) (λ z. λ w. and_then (f j w) (λ x. λ y. and_then (decoded_members line f (name ∷ before) rest y) (λ es. give ((z, x) ∷ es)))) k t new in
     let step : decoded_members line f before (member name j rest) s ≡ and_then (decoded_members line f (name ∷ before) rest u) (λ es. give ((k, v) ∷ es)) =
-        after_name ∙ ap (λ o. and_then o (λ x. λ w. and_then (decoded_members line f (name ∷ before) rest w) (λ es. give ((k, x) ∷ es)))) done in
+    after_name ∙ ap (λ o. and_then o (λ x. λ w. and_then (decoded_members line f (name ∷ before) rest w) (λ es. give ((k, x) ∷ es)))) done in
     ap (λ zs. with_front zs (decoded_members line f after rest u)) pushed
     ∙ (ap (λ b. with_front (front ++ (k, v) ∷ []) (decoded_members line f b rest u)) more
     ∙ (front_more (decoded_members line f (name ∷ before) rest u) front (k, v)
