@@ -1,0 +1,8 @@
+//! Laws: reports as lines.
+
+ghost use Rattle.star_lines.specs.Lines.{ReportsAreLines};
+
+/// The text of a report that leaves no module out is a line for `--join`.
+pub fn reports_are_lines()
+    ensures { ReportsAreLines }
+{}
