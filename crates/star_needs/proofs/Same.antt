@@ -1,9 +1,9 @@
 -- Operations on values ask for no outlines.
-use Rattle.std.proofs.Common.{◌≡◌, ℕ, List, [], Option, Some, refl, ap, ◌∙◌, Bool}
+use Rattle.std.proofs.Common.{◌≡◌, ℕ, List, [], ◌∷◌, ◌++◌, cond, nat_eq, length, Option, Some, refl, ap, ◌∙◌, Bool}
 use Rattle.star_store.specs.declared.values.Cell.TheVariants as cell
 use Rattle.star_tree.specs.declared.tree.BinaryOperator.TheVariants as binary
 use Rattle.star_meaning.specs.declared.given.KeywordArgument.{KeywordArgument}
-use Rattle.star_meaning.specs.Run.{Action, ◌>>=◌, give}
+use Rattle.star_meaning.specs.Run.{Action, ◌>>=◌, check, give, pay}
 use Rattle.star_store.specs.declared.values.Value.{Value}
 use Rattle.star_store.specs.declared.names.BuiltIn.{BuiltIn}
 use Rattle.star_store.specs.declared.names.Method.{Method}
@@ -24,11 +24,15 @@ use Rattle.star_meaning.specs.Expressions.{fresh_entries}
 use Rattle.star_meaning.specs.ListMethods.{extend}
 use Rattle.star_meaning.specs.Attributes.{attribute}
 use Rattle.star_meaning.specs.Methods.{call_method}
-use Rattle.star_meaning.specs.Operators.{comparison, operate, prefix}
+use Rattle.star_meaning.specs.Operators.{comparison, on_contents, on_others, operate, prefix}
+use Rattle.star_meaning.specs.Percent.{Between, Format, Name, Named, Position, filled, format_letter, is_letter, letter_in, named_text, next_text, opens, percent, put_in, value_for}
+use Rattle.star_meaning.specs.declared.fault.FaultCode.TheVariants as code
+use Rattle.star_dialect.specs.declared.Dialect.{Dialect}
+use Rattle.star_dialect.specs.declared.Dialect.TheVariants as dialect
 use Rattle.star_meaning.specs.Pairs.{dict_of, pairs_of, put_pairs, update_with}
 use Rattle.star_meaning.specs.Statements.{augment_content, augmented}
 use Rattle.star_meaning.specs.Subscript.{index, put_entry, set_index, slice}
-use Rattle.star_meaning.specs.Values.{Content, Held, change, check_key, compare, count_of, equal, guard, is_true, iterate, repr, str, take_all, take_item, with_content}
+use Rattle.star_meaning.specs.Values.{BuiltInFunction, Content, Held, Nothing, Nowhere, Number, Truth, change, check_key, compare, count_of, encoded, equal, guard, is_true, iterate, new_text, repr, str, take_all, take_item, want_int, with_content}
 
 pub same-given : (os : List (Option Outline)) (w : Setting) (line : ℕ) (ps : List EvaluatedArgument) → given (with_outlines os w) line ps ≡ given w line ps
 unfolding given name_key count_of take_item
@@ -62,9 +66,93 @@ pub same-attribute : (os : List (Option Outline)) (w : Setting) (line : ℕ) (x 
 unfolding attribute
 same-attribute os w line x name = refl
 
+same-letter_in : (os : List (Option Outline)) (w : Setting) (levels line : ℕ) (d : Dialect) (letter : ℕ) (x : Value) → letter_in d (with_outlines os w) levels line letter x ≡ letter_in d w levels line letter x
+unfolding str repr
+same-letter_in os w levels line dialect.Core letter x = refl
+same-letter_in os w levels line dialect.Extended letter x = refl
+
+same-format_letter : (os : List (Option Outline)) (w : Setting) (levels line : ℕ) (letter : ℕ) (x : Value) → format_letter (with_outlines os w) levels line letter x ≡ format_letter w levels line letter x
+unfolding str repr
+same-format_letter os w levels line letter x =
+    ap (λ m. cond (nat_eq letter 115) (str w levels line x) (cond (nat_eq letter 114) (repr w levels line x) (cond (nat_eq letter 100) (want_int w line x >>= λ n. repr w levels line x) m)))
+    (same-letter_in os w levels line w.dialect letter x)
+
+same-next_text : (os : List (Option Outline)) (w : Setting) (levels line : ℕ) (letter : ℕ) (xs : List Value) → next_text (with_outlines os w) levels line letter xs ≡ next_text w levels line letter xs
+same-next_text os w levels line letter [] = refl
+same-next_text os w levels line letter (x ∷ xs) = ap (λ m. m >>= λ t. give (t, xs)) (same-format_letter os w levels line letter x)
+
+same-value_for : (os : List (Option Outline)) (w : Setting) (line : ℕ) (k : List ℕ) (c : Content) → value_for (with_outlines os w) line k c ≡ value_for w line k c
+same-value_for os w line k c = refl
+
+same-named_text : (os : List (Option Outline)) (w : Setting) (levels line : ℕ) (y : Value) (k : List ℕ) (letter : ℕ) → named_text (with_outlines os w) levels line y k letter ≡ named_text w levels line y k letter
+same-named_text os w levels line y k letter =
+    λ i. check code.BadValue line (is_letter letter) >>= λ _. with_content w y (λ c. same-value_for os w line k c i) >>= λ x. same-format_letter os w levels line letter x i
+
+same-filled : (os : List (Option Outline)) (w : Setting) (levels line : ℕ) (y : Value) (p : Position) (bs : List ℕ) (xs : List Value) (out : List ℕ) → filled (with_outlines os w) levels line y p bs xs out ≡ filled w levels line y p bs xs out
+same-filled os w levels line y Between [] [] out = refl
+same-filled os w levels line y Between [] (x ∷ xs) out = refl
+same-filled os w levels line y Format [] xs out = refl
+same-filled os w levels line y (Name k) [] xs out = refl
+same-filled os w levels line y (Named k) [] xs out = refl
+same-filled os w levels line y Between (b ∷ bs) xs out =
+    λ i. cond (nat_eq b 37) (same-filled os w levels line y Format bs xs out i) (same-filled os w levels line y Between bs xs (out ++ b ∷ []) i)
+same-filled os w levels line y Format (b ∷ bs) xs out =
+    λ i. cond (nat_eq b 37) (same-filled os w levels line y Between bs xs (out ++ b ∷ []) i)
+    (cond (opens w.dialect b) (same-filled os w levels line y (Name []) bs xs out i)
+    (same-next_text os w levels line b xs i >>= λ r. same-filled os w levels line y Between bs r.1 (out ++ r.0) i))
+same-filled os w levels line y (Name k) (b ∷ bs) xs out =
+    λ i. cond (nat_eq b 41) (same-filled os w levels line y (Named k) bs xs out i) (same-filled os w levels line y (Name (k ++ b ∷ [])) bs xs out i)
+same-filled os w levels line y (Named k) (b ∷ bs) xs out =
+    λ i. same-named_text os w levels line y k b i >>= λ t. same-filled os w levels line y Between bs [] (out ++ t) i
+
+same-percent : (os : List (Option Outline)) (w : Setting) (levels line : ℕ) (t : List ℕ) (d : Content) (y : Value) → percent (with_outlines os w) levels line t d y ≡ percent w levels line t d y
+same-percent os w levels line t d y = ap (λ m. pay line (length t) >>= λ _. m >>= new_text line) (same-filled os w levels line y Between t (put_in d y) [])
+
+same-remainder : (os : List (Option Outline)) (w : Setting) (levels line : ℕ) (c d : Content) (y : Value) → on_others (with_outlines os w) levels line binary.Modulo c d y ≡ on_others w levels line binary.Modulo c d y
+same-remainder os w levels line Nothing d y = refl
+same-remainder os w levels line (Truth b) d y = refl
+same-remainder os w levels line (Number z) d y = refl
+same-remainder os w levels line (BuiltInFunction b) d y = refl
+same-remainder os w levels line Nowhere d y = refl
+same-remainder os w levels line (Held (cell.Text t)) d y = same-percent os w levels line t d y
+same-remainder os w levels line (Held (cell.Range r)) d y = refl
+same-remainder os w levels line (Held (cell.Tuple xs)) d y = refl
+same-remainder os w levels line (Held (cell.List xs)) d y = refl
+same-remainder os w levels line (Held (cell.Dict es)) d y = refl
+same-remainder os w levels line (Held (cell.Func f)) d y = refl
+same-remainder os w levels line (Held (cell.Frame f)) d y = refl
+same-remainder os w levels line (Held (cell.Bound m x)) d y = refl
+same-remainder os w levels line (Held (cell.Struct fs)) d y = refl
+
+same-on_others : (os : List (Option Outline)) (w : Setting) (levels line : ℕ) (op : BinaryOperator) (c d : Content) (y : Value) → on_others (with_outlines os w) levels line op c d y ≡ on_others w levels line op c d y
+unfolding equal compare check_key repr str is_true count_of take_item guard change iterate
+same-on_others os w levels line binary.Add c d y = refl
+same-on_others os w levels line binary.Subtract c d y = refl
+same-on_others os w levels line binary.Multiply c d y = refl
+same-on_others os w levels line binary.FloorDivide c d y = refl
+same-on_others os w levels line binary.ShiftLeft c d y = refl
+same-on_others os w levels line binary.ShiftRight c d y = refl
+same-on_others os w levels line binary.BitAnd c d y = refl
+same-on_others os w levels line binary.BitXor c d y = refl
+same-on_others os w levels line binary.BitOr c d y = refl
+same-on_others os w levels line binary.Modulo c d y = same-remainder os w levels line c d y
+
+same-on_contents : (os : List (Option Outline)) (w : Setting) (levels line : ℕ) (op : BinaryOperator) (c d : Content) (y : Value) → on_contents (with_outlines os w) levels line op c d y ≡ on_contents w levels line op c d y
+same-on_contents os w levels line op (Number x) (Number z) y = refl
+same-on_contents os w levels line op (Number x) Nothing y = same-on_others os w levels line op (Number x) Nothing y
+same-on_contents os w levels line op (Number x) (Truth b) y = same-on_others os w levels line op (Number x) (Truth b) y
+same-on_contents os w levels line op (Number x) (BuiltInFunction b) y = same-on_others os w levels line op (Number x) (BuiltInFunction b) y
+same-on_contents os w levels line op (Number x) (Held h) y = same-on_others os w levels line op (Number x) (Held h) y
+same-on_contents os w levels line op (Number x) Nowhere y = same-on_others os w levels line op (Number x) Nowhere y
+same-on_contents os w levels line op Nothing d y = same-on_others os w levels line op Nothing d y
+same-on_contents os w levels line op (Truth b) d y = same-on_others os w levels line op (Truth b) d y
+same-on_contents os w levels line op (BuiltInFunction b) d y = same-on_others os w levels line op (BuiltInFunction b) d y
+same-on_contents os w levels line op (Held h) d y = same-on_others os w levels line op (Held h) d y
+same-on_contents os w levels line op Nowhere d y = same-on_others os w levels line op Nowhere d y
+
 pub same-operate : (os : List (Option Outline)) (w : Setting) (levels line : ℕ) (op : BinaryOperator) (x y : Value) → operate (with_outlines os w) levels line op x y ≡ operate w levels line op x y
 unfolding operate equal compare check_key repr str is_true count_of take_item guard change iterate
-same-operate os w levels line op x y = refl
+same-operate os w levels line op x y = λ i. with_content w x (λ c. with_content w y (λ d. same-on_contents os w levels line op c d y i))
 
 pub same-prefix : (os : List (Option Outline)) (w : Setting) (line : ℕ) (op : UnaryOperator) (v : Value) → prefix (with_outlines os w) line op v ≡ prefix w line op v
 unfolding prefix is_true
