@@ -22,10 +22,10 @@ use Rattle.star_join.proofs.Reports.{Ends, ended_in, left_ends, numbers, reached
 use Rattle.star_join.proofs.Rows.{mapped, to_up}
 use Rattle.star_join.proofs.Shown.{any_both, any_there, filter_join, left_or, or_left, or_right, or_true, order_filter, right_or, there}
 
-abbrev modules_in : List Full → List Module
+abbrev pub modules_in : List Full → List Module
 modules_in fs = map (λ (f : Full). f.shown) fs
 
-same_numbers : (fs : List Full) → map file_of (modules_in fs) ≡ map full_file fs
+pub same_numbers : (fs : List Full) → map file_of (modules_in fs) ≡ map full_file fs
 same_numbers [] = refl
 same_numbers (f ∷ fs) = ap (λ ns. f.shown.file ∷ ns) (same_numbers fs)
 
@@ -34,10 +34,10 @@ same_length [] = refl
 same_length (f ∷ fs) = ap suc (same_length fs)
 
 -- what a module with its further members is in a plan
-abbrev Is : Wanted → List File → Plan → Full → Type 0
+abbrev pub Is : Wanted → List File → Plan → Full → Type 0
 Is wanted files plan f = Ends plan f.shown × AreMore wanted files plan f.shown.file f.more
 
-one_full : (wanted : Wanted) (files : List File) (plan : Plan) (f g : Full) → full_file f ≡ full_file g → Is wanted files plan f → Is wanted files plan g → f ≡ g
+pub one_full : (wanted : Wanted) (files : List File) (plan : Plan) (f g : Full) → full_file f ≡ full_file g → Is wanted files plan f → Is wanted files plan g → f ≡ g
 one_full wanted files plan f g e h k =
     let shown : f.shown ≡ g.shown = same_module plan f.shown g.shown e h.0 k.0 in
     let more : f.more ≡ g.more = one_more wanted files plan f.shown.file f.more g.more h.1 (subst (λ n. AreMore wanted files plan n g.more) (sym e) k.1) in

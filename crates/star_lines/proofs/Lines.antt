@@ -141,7 +141,7 @@ module _ (wanted : Wanted) (files : List File) (plan : Plan) (labels : HavePlain
   entries_are [] h = All-nil IsEntry
   entries_are (f ∷ fs) h = All-cons IsEntry (entry_text files f) (map (entry_text files) fs) (entry_has wanted files plan f labels (All-head (λ g. AreMore wanted files plan g.shown.file g.more) f fs h)).entry (entries_are fs (All-tail (λ g. AreMore wanted files plan g.shown.file g.more) f fs h))
 
-  labels_are : (fulls : List Full) → All (λ f. AreMore wanted files plan f.shown.file f.more) fulls → map (λ f. label_of (entry_text files f)) fulls ≡ map (λ f. label_at files f.shown.file) fulls
+  pub labels_are : (fulls : List Full) → All (λ f. AreMore wanted files plan f.shown.file f.more) fulls → map (λ f. label_of (entry_text files f)) fulls ≡ map (λ f. label_at files f.shown.file) fulls
   labels_are [] h = refl
   labels_are (f ∷ fs) h = let it = entry_has wanted files plan f labels (All-head (λ g. AreMore wanted files plan g.shown.file g.more) f fs h) in ap (λ w. w ∷ map (λ g. label_of (entry_text files g)) fs) it.label_is ∙ ap (λ ws. label_at files f.shown.file ∷ ws) (labels_are fs (All-tail (λ g. AreMore wanted files plan g.shown.file g.more) f fs h))
 

@@ -1,8 +1,14 @@
 //! Laws: reports as lines.
 
+ghost use Rattle.star_lines.specs.Joins.{ReportsJoin};
 ghost use Rattle.star_lines.specs.Lines.{ReportsAreLines};
 
 /// The text of a report that leaves no module out is a line for `--join`.
 pub fn reports_are_lines()
     ensures { ReportsAreLines }
+{}
+
+/// The join of reports is the report of all their roots.
+pub fn reports_join()
+    ensures { ReportsJoin }
 {}

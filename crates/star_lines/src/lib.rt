@@ -1,6 +1,8 @@
-//! The text of a report is a line that joins: laws, no code.
+//! The text of a report is a line that joins, and the join of such lines is the report of all roots: laws, no code.
+//!
+//! Begin at `specs/Lines.antt` and `specs/Joins.antt`.
 #![tactic(auto)]
 
 mod law;
 
-pub use law::reports_are_lines;
+pub use law::{reports_are_lines, reports_join};
