@@ -6,6 +6,4 @@
 # A report of files at fault is a report, so the status is 0 if one was written: engines take any other for a failure.
 file="$1"
 shift
-mapfile -t roots <"$file"
-"${STARLOAD:-starload}" "$@" "${roots[@]}" >"$file.report"
-[ $? -le 1 ]
+exec "${STARLOAD:-starload}" "$@" --report-status --roots-from "$file" >"$file.report"

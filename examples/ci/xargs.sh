@@ -8,5 +8,5 @@ here="$(cd "$(dirname "${BASH_SOURCE[0]}")" && pwd)"
 made="$(mktemp -d)" || exit 2
 trap 'rm -rf "$made"' EXIT
 split --number "r/$count" --elide-empty-files "$roots" "$made/shard."
-find "$made" -name 'shard.*' -print0 | xargs -0 -r -P "$count" -I FILE "$here/shard.sh" FILE "$@" || exit 2
+find "$made" -name 'shard.*' -print0 | xargs -0 -r -P "$count" -I {} "$here/shard.sh" {} "$@" || exit 2
 find "$made" -name '*.report' -print0 | xargs -0 -r cat | "${STARLOAD:-starload}" --join

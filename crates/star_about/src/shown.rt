@@ -46,6 +46,7 @@ pub(crate) fn type_of(kind: Kind) -> Type {
         Kind::Dict => Type::Dict,
         Kind::Function => Type::Function,
         Kind::Struct => Type::Struct,
+        Kind::Set => Type::Set,
         Kind::Frame | Kind::Nowhere => Type::Other,
     }
 }

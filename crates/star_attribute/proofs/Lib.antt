@@ -2,4 +2,5 @@ mod Braces
 mod Converted
 mod Ends
 mod Once
+mod Own
 mod Places

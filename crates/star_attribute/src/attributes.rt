@@ -4,7 +4,7 @@
 ghost use Rattle.std.specs.Prelude.{◌≡◌, IfOk, None, OnOk, map};
 ghost use Rattle.std.specs.List.{find};
 ghost use Rattle.std.specs.Option.{option_map};
-ghost use Rattle.star_attribute.specs.Attributes.{attribute_of, shown_members, shown_names};
+ghost use Rattle.star_attribute.specs.Attributes.{attribute_of, of_dicts, shown_members, shown_names};
 ghost use Rattle.star_machine.specs.Refines.{Refines};
 ghost use Rattle.star_meaning.specs.Attributes as spec;
 ghost use Rattle.star_machine.specs.Shown.{shown};
@@ -20,7 +20,7 @@ use star_machine::fault::{EvalError, fault_at};
 use star_machine::machine::Machine;
 use star_machine::setting::Setting;
 use star_meaning::fault::FaultCode;
-use star_store::names::{BuiltIn, Method};
+use star_store::names::{BuiltIn, Method, SetMethod};
 use star_store::values::{Cell, Value};
 use star_strings::table::StringMethod;
 use star_text::Text;
@@ -67,6 +67,26 @@ const TEXT_METHODS: [Method; 12] = [
     Method::StringUpper,
 ];
 
+/// The methods of sets.
+const SET_METHODS: [Method; 16] = [
+    Method::OfSet(SetMethod::Add),
+    Method::OfSet(SetMethod::Clear),
+    Method::OfSet(SetMethod::Difference),
+    Method::OfSet(SetMethod::DifferenceUpdate),
+    Method::OfSet(SetMethod::Discard),
+    Method::OfSet(SetMethod::Intersection),
+    Method::OfSet(SetMethod::IntersectionUpdate),
+    Method::OfSet(SetMethod::Isdisjoint),
+    Method::OfSet(SetMethod::Issubset),
+    Method::OfSet(SetMethod::Issuperset),
+    Method::OfSet(SetMethod::Pop),
+    Method::OfSet(SetMethod::Remove),
+    Method::OfSet(SetMethod::SymmetricDifference),
+    Method::OfSet(SetMethod::SymmetricDifferenceUpdate),
+    Method::OfSet(SetMethod::Union),
+    Method::OfSet(SetMethod::Update),
+];
+
 /// The first of some methods with a name.
 fn named(methods: &[Method], name: &str) -> Option<Method>
     ensures { result ≡ find (λ m. same_name (method_name m) name.now) methods.now }
@@ -79,13 +99,14 @@ fn named(methods: &[Method], name: &str) -> Option<Method>
     None
 }
 
-/// The method of the core with a name that a list, a dictionary or a string has.
+/// The method with a name that a list, a dictionary, a set or a string has without the table.
 fn core_method_of(content: Content, name: &str) -> Option<Method>
     ensures { result ≡ spec.core_method_of (type_name (shown content.entry)) name.now }
 {
     match content {
         Content::Held(Cell::List(_)) => named(&LIST_METHODS, name),
         Content::Held(Cell::Dict(_)) => named(&DICT_METHODS, name),
+        Content::Held(Cell::Set(_)) => named(&SET_METHODS, name),
         Content::Held(Cell::Text(_)) => named(&TEXT_METHODS, name),
         _ => None,
     }
@@ -209,13 +230,22 @@ pub fn read_attribute(
     }
 }
 
-/// The methods of the core that a value has.
+/// The methods of dictionaries.
+fn dict_methods() -> &'static [Method]
+    ensures { result.now ≡ of_dicts }
+{
+    &DICT_METHODS
+}
+
+/// The methods that a value has without the table.
+#[tactic(auto, using(crate::proofs::Own::dict_names))]
 fn core_methods(content: Content) -> &'static [Method]
     ensures { map method_name result.now ≡ spec.core_names (type_name (shown content.entry)) }
 {
     match content {
         Content::Held(Cell::List(_)) => &LIST_METHODS,
-        Content::Held(Cell::Dict(_)) => &DICT_METHODS,
+        Content::Held(Cell::Dict(_)) => dict_methods(),
+        Content::Held(Cell::Set(_)) => &SET_METHODS,
         Content::Held(Cell::Text(_)) => &TEXT_METHODS,
         _ => &[],
     }

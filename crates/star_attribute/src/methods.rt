@@ -24,6 +24,7 @@ use star_method::dicts::{
 use star_method::lists::{
     call_append, call_clear, call_extend, call_index, call_insert, call_pop, call_remove,
 };
+use star_method::sets::call_on_set;
 use star_method::split::{call_replace, call_split};
 use star_method::table::{call_in_table, call_named};
 use star_method::texts::{Case, Edge, call_case, call_edge, call_find, call_join, call_strip};
@@ -132,6 +133,7 @@ fn run_method(
         Method::DictSetdefault => call_keyed(machine, Keyed::SetDefault, receiver, call),
         Method::DictUpdate => call_update(machine, receiver, call),
         Method::DictValues => call_listed(machine, Listed::Values, receiver, call),
+        Method::OfSet(method) => call_on_set(machine, method, receiver, call),
         _ => call_on_text(machine, method, receiver, call),
     }
 }

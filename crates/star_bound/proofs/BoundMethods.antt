@@ -10,6 +10,7 @@ use Rattle.star_bound.proofs.Within.{Bounded, Credited}
 use Rattle.star_bound.proofs.Bounds.{bounded, VariablesBounded, AllBounded, Spares, bounded_spared, credited_seeing, credited_make_frame}
 use Rattle.star_bound.proofs.BoundValues.{bounded-want_text}
 use Rattle.star_bound.proofs.BoundListMethods.{bounded-call_append, bounded-call_clear, bounded-call_extend, bounded-call_index, bounded-call_insert, bounded-call_pop, bounded-call_remove}
+use Rattle.star_bound.proofs.BoundSets.{bounded-call_on_set}
 use Rattle.star_bound.proofs.BoundDictMethods.{bounded-call_get, bounded-call_items, bounded-call_keys, bounded-call_values, bounded-call_dict_pop, bounded-call_popitem, bounded-call_setdefault, bounded-call_update}
 use Rattle.star_bound.proofs.BoundTableMethods.{bounded-call_in_table, bounded-call_wider}
 use Rattle.star_bound.proofs.BoundTextMethods.{bounded-call_edge, bounded-call_find, bounded-call_join, bounded-call_split, bounded-call_strip, bounded-call_case, bounded-call_replace, bounded-call_format}
@@ -48,4 +49,5 @@ bounded-call_method w levels line method.DictPopitem x g = search (bounded, boun
 bounded-call_method w levels line method.DictSetdefault x g = search (bounded, bounded-call_setdefault) depth 14
 bounded-call_method w levels line method.DictUpdate x g = search (bounded, bounded-call_update) depth 14
 bounded-call_method w levels line method.DictValues x g = search (bounded, bounded-call_values) depth 14
+bounded-call_method w levels line (method.OfSet m) x g = search (bounded, bounded-call_on_set) depth 14
 bounded-call_method w levels line m x g = search (bounded, bounded-want_text, bounded-on_text) depth 14

@@ -10,6 +10,8 @@ pub mod BoundPairs
 pub mod BoundJson
 pub mod BoundListMethods
 pub mod BoundDictMethods
+pub mod Emptied
+pub mod BoundSets
 pub mod BoundOrders
 pub mod BoundBuiltIns
 pub mod BoundFormat
@@ -38,6 +40,7 @@ pub mod NarrowPairs
 pub mod NarrowJson
 pub mod NarrowListMethods
 pub mod NarrowDictMethods
+pub mod NarrowSets
 pub mod NarrowOrders
 pub mod NarrowBuiltIns
 pub mod NarrowFormat

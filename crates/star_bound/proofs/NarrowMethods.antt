@@ -9,6 +9,7 @@ use Rattle.star_meaning.specs.Methods.{on_text, call_method}
 use Rattle.star_bound.proofs.Narrow.{narrow, Narrows, VariablesNarrow, AllNarrow, narrow_make_frame}
 use Rattle.star_bound.proofs.NarrowValues.{narrow-want_text}
 use Rattle.star_bound.proofs.NarrowListMethods.{narrow-call_append, narrow-call_clear, narrow-call_extend, narrow-call_index, narrow-call_insert, narrow-call_pop, narrow-call_remove}
+use Rattle.star_bound.proofs.NarrowSets.{narrow-call_on_set}
 use Rattle.star_bound.proofs.NarrowDictMethods.{narrow-call_get, narrow-call_items, narrow-call_keys, narrow-call_values, narrow-call_dict_pop, narrow-call_popitem, narrow-call_setdefault, narrow-call_update}
 use Rattle.star_bound.proofs.NarrowTableMethods.{narrow-call_in_table, narrow-call_wider}
 use Rattle.star_bound.proofs.NarrowTextMethods.{narrow-call_edge, narrow-call_find, narrow-call_join, narrow-call_split, narrow-call_strip, narrow-call_case, narrow-call_replace, narrow-call_format}
@@ -47,4 +48,5 @@ narrow-call_method w levels line method.DictPopitem x g = search (narrow, narrow
 narrow-call_method w levels line method.DictSetdefault x g = search (narrow, narrow-call_setdefault) depth 14
 narrow-call_method w levels line method.DictUpdate x g = search (narrow, narrow-call_update) depth 14
 narrow-call_method w levels line method.DictValues x g = search (narrow, narrow-call_values) depth 14
+narrow-call_method w levels line (method.OfSet m) x g = search (narrow, narrow-call_on_set) depth 14
 narrow-call_method w levels line m x g = search (narrow, narrow-want_text, narrow-on_text) depth 14

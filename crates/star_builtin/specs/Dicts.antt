@@ -3,7 +3,7 @@ use Rattle.std.specs.Prelude.{◌≡◌, ℕ, List, Result, Ok, Err}
 use Rattle.star_store.specs.declared.values.Value.{Value}
 use Rattle.star_machine.specs.declared.fault.EvalError.{EvalError}
 use Rattle.star_meaning.specs.Arguments.{key_for}
-use Rattle.star_meaning.specs.Operators.{with_entry}
+use Rattle.star_meaning.specs.Entries.{with_entry}
 use Rattle.star_meaning.specs.Program.{Setting}
 use Rattle.star_meaning.specs.declared.given.KeywordArgument.{KeywordArgument}
 use Rattle.star_meaning.specs.Run.{State, Action, Outcome, Done, ◌>>=◌, give, seeing}

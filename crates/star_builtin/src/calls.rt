@@ -14,6 +14,7 @@ use crate::numbers::{call_abs, call_len};
 use crate::print::{Form, call_fail, call_print, call_text, call_type};
 use crate::ranges::call_range;
 use crate::rows::{Row, call_enumerate, call_reversed, call_row, call_zip};
+use crate::sets::call_set;
 use crate::sorted::call_sorted;
 use crate::structs::call_struct;
 use crate::truths::{call_all, call_any, call_bool};
@@ -62,6 +63,7 @@ fn run_built_in(machine: &mut Machine, built_in: BuiltIn, call: &Call) -> Result
         BuiltIn::Hash => call_hash(machine, call),
         BuiltIn::Json => Err(fault_at(FaultCode::BadType, call.line)),
         BuiltIn::Ord => call_ord(machine, call),
+        BuiltIn::Set => call_set(machine, call),
         BuiltIn::Struct => call_struct(machine, call),
         BuiltIn::JsonDecode => call_decode(machine, call),
         BuiltIn::JsonEncode => call_encode(machine, call),

@@ -26,6 +26,7 @@ pub mod orders;
 pub mod print;
 pub mod ranges;
 pub mod rows;
+pub mod sets;
 pub mod sorted;
 mod spelling;
 pub mod structs;

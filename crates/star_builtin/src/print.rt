@@ -105,6 +105,7 @@ fn type_name(content: Content) -> &'static str
         Content::Held(Cell::Frame(_)) => "",
         Content::Held(Cell::Bound(_, _)) => "builtin_function_or_method",
         Content::Held(Cell::Struct(_)) => "struct",
+        Content::Held(Cell::Set(_)) => "set",
         Content::Nowhere => "",
     }
 }

@@ -13,7 +13,7 @@ use Rattle.star_store.specs.declared.values.Cell.TheVariants as cell
 use Rattle.star_store.specs.Fields.{values_of}
 use Rattle.star_store.specs.Text.{on_path, same_address}
 use Rattle.star_data.specs.Data.{cell_data, cell_of, data_of, entries_data, items_data, key_in, value_data}
-use Rattle.star_data.specs.Parts.{IsPart, StandsIn, in_dict, in_list, in_struct, in_tuple}
+use Rattle.star_data.specs.Parts.{IsPart, StandsIn, in_dict, in_list, in_set, in_struct, in_tuple}
 use Rattle.star_data.specs.Paths.{AllStandInEach, StandsInEach}
 use Rattle.star_data.proofs.Options.{chained, mapped}
 use Rattle.star_data.proofs.Parts.{no_cycle_is_data, stands_push}
@@ -172,13 +172,16 @@ value_at (y ∷ es) (suc i) x e = value_at es i x e
 pub in_a_dict : (look : Value → Option Cell) (path : List Value) (v : Value) (es : List (Value × Value)) → cell_of look v ≡ Some (cell.Dict es) → StandsInEach look path v → AllStandInEach look (path ++ v ∷ []) (map (λ (e : Value × Value). e.1) es)
 in_a_dict look path v es is stands = record { all = λ i x at. (let here = value_at es i x at in entered look path v x stands (in_dict es i here.0 is here.1)) }
 
-field_at : (fs : List (List ℕ × Value)) (i : ℕ) (x : Value) → slice_get (values_of fs) i ≡ Some x → (n : List ℕ) × (slice_get fs i ≡ Some (n, x))
+pub field_at : (fs : List (List ℕ × Value)) (i : ℕ) (x : Value) → slice_get (values_of fs) i ≡ Some x → (n : List ℕ) × (slice_get fs i ≡ Some (n, x))
 field_at [] i x e = absurd (let no : ⊥ = cc in no)
 field_at (y ∷ fs) zero x e = (y.0, let same : y.1 ≡ x = cc in ap (λ z. Some (y.0, z)) same)
 field_at (y ∷ fs) (suc i) x e = field_at fs i x e
 
 pub in_a_struct : (look : Value → Option Cell) (path : List Value) (v : Value) (fs : List (List ℕ × Value)) → cell_of look v ≡ Some (cell.Struct fs) → StandsInEach look path v → AllStandInEach look path (values_of fs)
 in_a_struct look path v fs is stands = record { all = λ i x at. (let here = field_at fs i x at in one_deeper look path v x stands (in_struct fs i here.0 is here.1)) }
+
+pub in_a_set : (look : Value → Option Cell) (path : List Value) (v : Value) (es : List (Value × Value)) → cell_of look v ≡ Some (cell.Set es) → StandsInEach look path v → AllStandInEach look path (map (λ (e : Value × Value). e.0) es)
+in_a_set look path v es is stands = record { all = λ i x at. one_deeper look path v x stands (in_set es i is at) }
 
 pub by_ref : (look : Value → Option Cell) (f : Value → Option Data) (v : Value) (h a : ℕ) → v ≡ value.Ref h a → cell_data look f (look v) ≡ value_data look f v
 by_ref look f v h a e = let P : Value → Type 0 = λ z. cell_data look f (look z) ≡ value_data look f z in subst P (sym e) refl

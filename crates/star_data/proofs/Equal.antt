@@ -22,7 +22,9 @@ use Rattle.star_store.specs.Key.{key_levels, place_of, same_key, same_key_cell, 
 use Rattle.star_store.specs.Spend.{Enough, Lacks, Spend, Spent, all_places, answer, spend_then, visited}
 use Rattle.star_data.specs.Counts.{member_count}
 use Rattle.star_data.specs.Data.{cell_data, cell_of, data_of, entries_data, fields_data, items_data, key_in, text_in, utf8_of, value_data}
-use Rattle.star_data.specs.Laws.{EqualAreSame, KeysStandOnce}
+use Rattle.star_data.specs.Laws.{EqualAreSame, HasNoSet, KeysStandOnce}
+use Rattle.star_data.specs.Parts.{IsPart, in_dict, in_list, in_struct, in_tuple}
+use Rattle.star_data.proofs.Builds.{field_at}
 use Rattle.star_data.proofs.Ints.{int_is}
 use Rattle.star_data.proofs.Rising.{Rises, count_new, count_put, equal_bytes, rises_put, same_members}
 use Rattle.serde_json.proofs.Views.{get_member-put, get_member-put_other}
@@ -272,23 +274,27 @@ by_key look b ys ns f key v t is h texts =
 
 -- ---- cells and values
 
--- a comparison of two values that passes makes their data the same
-abbrev Below : (Value → Value → Spend Bool) → (Value → Option Data) → (Value → Option Data) → Type 0
-Below f a b = (x y : Value) (d e : Data) → Passes (f x y) → a x ≡ Some d → b y ≡ Some e → d ≡ e
+-- a comparison that passes makes the data the same, if one of the two values is of some kind
+abbrev Below : (Value → Type 0) → (Value → Value → Spend Bool) → (Value → Option Data) → (Value → Option Data) → Type 0
+Below p f a b = (x y : Value) (d e : Data) → p x → Passes (f x y) → a x ≡ Some d → b y ≡ Some e → d ≡ e
+
+-- all values of a row are of some kind
+abbrev AllAre : (Value → Type 0) → List Value → Type 0
+AllAre p xs = (j : ℕ) (x : Value) → slice_get xs j ≡ Some x → p x
 
 pair_is : (f : Value → Value → Spend Bool) (xs ys : List Value) (j : ℕ) (x y : Value) → slice_get xs j ≡ Some x → slice_get ys j ≡ Some y → same_place f xs ys j ≡ f x y
 pair_is f xs ys j x y e g = ap (λ o. same_pair f o (slice_get ys j)) e ∙ ap (λ o. same_pair f (Some x) o) g
 
-listed : (f : Value → Value → Spend Bool) (a b : Value → Option Data) → Below f a b → (xs ys : List Value) (n left : ℕ) → same_items f xs ys n ≡ Enough true left → (d e : Data) → option_map array (items_data a xs) ≡ Some d → option_map array (items_data b ys) ≡ Some e → d ≡ e
-listed f a b h xs ys n left is d e p q =
+listed : (k : Value → Type 0) (f : Value → Value → Spend Bool) (a b : Value → Option Data) → Below k f a b → (xs ys : List Value) (n left : ℕ) → AllAre k xs → same_items f xs ys n ≡ Enough true left → (d e : Data) → option_map array (items_data a xs) ≡ Some d → option_map array (items_data b ys) ≡ Some e → d ≡ e
+listed k f a b h xs ys n left parts is d e p q =
     let ds = mapped array (items_data a xs) d p in
     let es = mapped array (items_data b ys) e q in
     let rows = rows_pass (same_place f xs ys) (length xs) (length ys) n left is in
-    let all : ds.0 ≡ es.0 = items_same a b xs ys ds.0 es.0 ds.1 es.1 rows.0 (λ j x y u v at there. h x y u v (subst Passes (pair_is f xs ys j x y at there) (rows.1 j (within xs j x at)))) in
+    let all : ds.0 ≡ es.0 = items_same a b xs ys ds.0 es.0 ds.1 es.1 rows.0 (λ j x y u v at there. h x y u v (parts j x at) (subst Passes (pair_is f xs ys j x y at there) (rows.1 j (within xs j x at)))) in
     sym ds.2 ∙ (ap array all ∙ es.2)
 
-fielded : (f : Value → Value → Spend Bool) (a b : Value → Option Data) → Below f a b → (fs gs : List (List ℕ × Value)) (n left : ℕ) → same_fields f fs gs n ≡ Enough true left → (d e : Data) → option_map object (fields_data a fs) ≡ Some d → option_map object (fields_data b gs) ≡ Some e → d ≡ e
-fielded f a b h fs gs n left is d e p q = split (same_names (names_of fs) (names_of gs)) refl is
+fielded : (k : Value → Type 0) (f : Value → Value → Spend Bool) (a b : Value → Option Data) → Below k f a b → (fs gs : List (List ℕ × Value)) (n left : ℕ) → AllAre k (values_of fs) → same_fields f fs gs n ≡ Enough true left → (d e : Data) → option_map object (fields_data a fs) ≡ Some d → option_map object (fields_data b gs) ≡ Some e → d ≡ e
+fielded k f a b h fs gs n left parts is d e p q = split (same_names (names_of fs) (names_of gs)) refl is
   where
     split : (c : Bool) → same_names (names_of fs) (names_of gs) ≡ c → (let o : Spend Bool = if c then same_items f (values_of fs) (values_of gs) else answer false in o) n ≡ Enough true left → d ≡ e
     split false names passed = absurd (let no : ⊥ = cc in no)
@@ -298,23 +304,23 @@ fielded f a b h fs gs n left is d e p q = split (same_names (names_of fs) (names
         let xs = values_of fs in
         let ys = values_of gs in
         let rows = rows_pass (same_place f xs ys) (length xs) (length ys) n left passed in
-        let all : ms.0 ≡ ns.0 = fields_same a b fs gs ms.0 ns.0 ms.1 ns.1 (same_rows (names_of fs) (names_of gs) names) (λ j x y u v at there. h x y u v (subst Passes (pair_is f xs ys j x y at there) (rows.1 j (within xs j x at)))) in
+        let all : ms.0 ≡ ns.0 = fields_same a b fs gs ms.0 ns.0 ms.1 ns.1 (same_rows (names_of fs) (names_of gs) names) (λ j x y u v at there. h x y u v (parts j x at) (subst Passes (pair_is f xs ys j x y at there) (rows.1 j (within xs j x at)))) in
         sym ms.2 ∙ (ap object all ∙ ns.2)
 
 found_passes : (f : Value → Value → Spend Bool) (x : Value) (o : Option Value) → Passes (same_found f x o) → (v : Value) × (o ≡ Some v) × Passes (f x v)
 found_passes f x None (n, left, e) = absurd (let no : ⊥ = cc in no)
 found_passes f x (Some v) h = (v, refl, h)
 
-entered : (look : Value → Option Cell) (f : Value → Value → Spend Bool) (a b : Value → Option Data) → Below f a b → (xs ys : List (Value × Value)) (n left : ℕ) → Once look xs → same_entries look f xs ys n ≡ Enough true left → (d e : Data) → option_map object (entries_data look a xs) ≡ Some d → option_map object (entries_data look b ys) ≡ Some e → d ≡ e
-entered look f a b h xs ys n left once is d e p q =
+entered : (look : Value → Option Cell) (k : Value → Type 0) (f : Value → Value → Spend Bool) (a b : Value → Option Data) → Below k f a b → (xs ys : List (Value × Value)) (n left : ℕ) → Once look xs → ((j : ℕ) (x : Value × Value) → slice_get xs j ≡ Some x → k x.1) → same_entries look f xs ys n ≡ Enough true left → (d e : Data) → option_map object (entries_data look a xs) ≡ Some d → option_map object (entries_data look b ys) ≡ Some e → d ≡ e
+entered look k f a b h xs ys n left once parts is d e p q =
     let ms = mapped object (entries_data look a xs) d p in
     let ns = mapped object (entries_data look b ys) e q in
     let rows = rows_pass (same_entry look f xs ys) (length xs) (length ys) n left is in
     let all = members_in look a xs ms.0 ns.0 ms.1 (λ j x t u at is dx. (
     let passes : Passes (same_found f x.1 (value_of look x.0 ys)) = subst Passes (ap (same_pairs look f ys) at) (rows.1 j (within xs j x at)) in
     let v = found_passes f x.1 (value_of look x.0 ys) passes in
-    let m = by_key look b ys ns.0 ns.1 x.0 v.0 t is v.1 (λ i y there. (let k = (entry-data look b ys ns.0 ns.1 i y there).0 in (k.0, (key_is (cell_of look y.0) k.0 k.1).0))) in
-    m.1 ∙ ap Some (sym (h x.1 v.0 u m.0 v.2 dx m.2))
+    let m = by_key look b ys ns.0 ns.1 x.0 v.0 t is v.1 (λ i y there. (let key = (entry-data look b ys ns.0 ns.1 i y there).0 in (key.0, (key_is (cell_of look y.0) key.0 key.1).0))) in
+    m.1 ∙ ap Some (sym (h x.1 v.0 u m.0 (parts j x at) v.2 dx m.2))
     )) in
     let mine = counted look a xs ms.0 once ms.1 in
     let yours = at_most look b ys ns.0 ns.1 in
@@ -328,20 +334,25 @@ data_is x y d e p q h = cc
 abbrev OnceIn : (Value → Option Cell) → Option Cell → Type 0
 OnceIn look c = (es : List (Value × Value)) → c ≡ Some (cell.Dict es) → Once look es
 
-cells : (look : Value → Option Cell) (f : Value → Value → Spend Bool) (a b : Value → Option Data) → Below f a b → (one : Bool) (x y : Option Cell) (n left : ℕ) → OnceIn look x → same_cells look f one x y n ≡ Enough true left → (d e : Data) → cell_data look a x ≡ Some d → cell_data look b y ≡ Some e → d ≡ e
-cells look f a b h one (Some (cell.Text t)) (Some (cell.Text u)) n left once is d e p q =
+-- and a place has no set
+abbrev IsNoSet : Option Cell → Type 0
+IsNoSet c = (es : List (Value × Value)) → c ≡ Some (cell.Set es) → ⊥
+
+cells : (look : Value → Option Cell) (v : Value) (f : Value → Value → Spend Bool) (a b : Value → Option Data) → Below (IsPart look v) f a b → (one : Bool) (x y : Option Cell) (n left : ℕ) → cell_of look v ≡ x → OnceIn look x → IsNoSet x → same_cells look f one x y n ≡ Enough true left → (d e : Data) → cell_data look a x ≡ Some d → cell_data look b y ≡ Some e → d ≡ e
+cells look v f a b h one (Some (cell.Text t)) (Some (cell.Text u)) n left here once off is d e p q =
     let equal : pointwise nat_eq t u ≡ true = cc in
     sym (string_is t d p).0 ∙ (ap string (same_bytes t u equal) ∙ (string_is u e q).0)
-cells look f a b h one (Some (cell.Tuple xs)) (Some (cell.Tuple ys)) n left once is d e p q = listed f a b h xs ys n left is d e p q
-cells look f a b h one (Some (cell.List xs)) (Some (cell.List ys)) n left once is d e p q = listed f a b h xs ys n left is d e p q
-cells look f a b h one (Some (cell.Dict xs)) (Some (cell.Dict ys)) n left once is d e p q = entered look f a b h xs ys n left (once xs refl) is d e p q
-cells look f a b h one (Some (cell.Struct fs)) (Some (cell.Struct gs)) n left once is d e p q = fielded f a b h fs gs n left is d e p q
-cells look f a b h one (Some (cell.Range r)) y n left once is d e p q = absurd (let no : ⊥ = cc in no)
-cells look f a b h one (Some (cell.Func r)) y n left once is d e p q = absurd (let no : ⊥ = cc in no)
-cells look f a b h one (Some (cell.Frame r)) y n left once is d e p q = absurd (let no : ⊥ = cc in no)
-cells look f a b h one (Some (cell.Bound m r)) y n left once is d e p q = absurd (let no : ⊥ = cc in no)
-cells look f a b h one None y n left once is d e p q = absurd (let no : ⊥ = cc in no)
-cells look f a b h one x y n left once is d e p q = absurd (let no : ⊥ = cc in no)
+cells look v f a b h one (Some (cell.Tuple xs)) (Some (cell.Tuple ys)) n left here once off is d e p q = listed (IsPart look v) f a b h xs ys n left (λ j x at. in_tuple xs j here at) is d e p q
+cells look v f a b h one (Some (cell.List xs)) (Some (cell.List ys)) n left here once off is d e p q = listed (IsPart look v) f a b h xs ys n left (λ j x at. in_list xs j here at) is d e p q
+cells look v f a b h one (Some (cell.Dict xs)) (Some (cell.Dict ys)) n left here once off is d e p q = entered look (IsPart look v) f a b h xs ys n left (once xs refl) (λ j x at. in_dict xs j x.0 here at) is d e p q
+cells look v f a b h one (Some (cell.Struct fs)) (Some (cell.Struct gs)) n left here once off is d e p q = fielded (IsPart look v) f a b h fs gs n left (λ j x at. (let field = field_at fs j x at in in_struct fs j field.0 here field.1)) is d e p q
+cells look v f a b h one (Some (cell.Set es)) y n left here once off is d e p q = absurd (off es refl)
+cells look v f a b h one (Some (cell.Range r)) y n left here once off is d e p q = absurd (let no : ⊥ = cc in no)
+cells look v f a b h one (Some (cell.Func r)) y n left here once off is d e p q = absurd (let no : ⊥ = cc in no)
+cells look v f a b h one (Some (cell.Frame r)) y n left here once off is d e p q = absurd (let no : ⊥ = cc in no)
+cells look v f a b h one (Some (cell.Bound m r)) y n left here once off is d e p q = absurd (let no : ⊥ = cc in no)
+cells look v f a b h one None y n left here once off is d e p q = absurd (let no : ⊥ = cc in no)
+cells look v f a b h one x y n left here once off is d e p q = absurd (let no : ⊥ = cc in no)
 
 same_bool : (b c : Bool) → beq b c ≡ true → b ≡ c
 same_bool true true e = refl
@@ -349,25 +360,30 @@ same_bool false false e = refl
 same_bool true false e = absurd (let no : ⊥ = cc in no)
 same_bool false true e = absurd (let no : ⊥ = cc in no)
 
-values : (look : Value → Option Cell) (f : Value → Value → Spend Bool) (a b : Value → Option Data) → KeysStandOnce look → Below f a b → (x y : Value) (n left : ℕ) → same_values look f x y n ≡ Enough true left → (d e : Data) → value_data look a x ≡ Some d → value_data look b y ≡ Some e → d ≡ e
-values look f a b once h value.NoneValue value.NoneValue n left is d e p q = data_is null null d e p q refl
-values look f a b once h (value.Bool u) (value.Bool v) n left is d e p q =
+values : (look : Value → Option Cell) (x y : Value) (f : Value → Value → Spend Bool) (a b : Value → Option Data) → KeysStandOnce look → IsNoSet (cell_of look x) → Below (IsPart look x) f a b → (n left : ℕ) → same_values look f x y n ≡ Enough true left → (d e : Data) → value_data look a x ≡ Some d → value_data look b y ≡ Some e → d ≡ e
+values look value.NoneValue value.NoneValue f a b once off h n left is d e p q = data_is null null d e p q refl
+values look (value.Bool u) (value.Bool v) f a b once off h n left is d e p q =
     let equal : beq u v ≡ true = cc in
     data_is (boolean u) (boolean v) d e p q (ap boolean (same_bool u v equal))
-values look f a b once h (value.Int u) (value.Int v) n left is d e p q =
+values look (value.Int u) (value.Int v) f a b once off h n left is d e p q =
     let equal : int_eq u v ≡ true = cc in
     let one = int_is u d p in
     let two = int_is v e q in
     sym one.1 ∙ (ap (λ z. number (of_integer z)) ((Decides-int_eq u v).0 equal) ∙ two.1)
-values look f a b once h (value.Ref k i) (value.Ref l j) n left is d e p q = cells look f a b h (nat_eq k l && nat_eq i j) (look (value.Ref k i)) (look (value.Ref l j)) n left (once (value.Ref k i)) is d e p q
-values look f a b once h (value.Builtin u) y n left is d e p q = absurd (let no : ⊥ = cc in no)
-values look f a b once h x y n left is d e p q = absurd (let no : ⊥ = cc in no)
+values look (value.Ref k i) (value.Ref l j) f a b once off h n left is d e p q = cells look (value.Ref k i) f a b h (nat_eq k l && nat_eq i j) (look (value.Ref k i)) (look (value.Ref l j)) n left refl (once (value.Ref k i)) off is d e p q
+values look (value.Builtin u) y f a b once off h n left is d e p q = absurd (let no : ⊥ = cc in no)
+values look x y f a b once off h n left is d e p q = absurd (let no : ⊥ = cc in no)
+
+-- no set is inside of a part of a value that has none
+part_none : (look : Value → Option Cell) (x u : Value) → HasNoSet look x → IsPart look x u → HasNoSet look u
+part_none look x u off part k v es stands is = off (suc k) v es (u, part, stands) is
 
 pub equal_are_same : EqualAreSame
 unfolding same data_of
-equal_are_same look once zero steps left n m x y d e is p q = absurd (let no : ⊥ = cc in no)
-equal_are_same look once (suc levels) steps left zero m x y d e is p q = absurd (let no : ⊥ = cc in no)
-equal_are_same look once (suc levels) steps left (suc n) zero x y d e is p q = absurd (let no : ⊥ = cc in no)
-equal_are_same look once (suc levels) steps left (suc n) (suc m) x y d e is p q =
+equal_are_same look once zero steps left n m x y d e off is p q = absurd (let no : ⊥ = cc in no)
+equal_are_same look once (suc levels) steps left zero m x y d e off is p q = absurd (let no : ⊥ = cc in no)
+equal_are_same look once (suc levels) steps left (suc n) zero x y d e off is p q = absurd (let no : ⊥ = cc in no)
+equal_are_same look once (suc levels) steps left (suc n) (suc m) x y d e off is p q =
     let passes : Passes (same_values look (same look levels) x y) = unvisited (same_values look (same look levels) x y) steps left is in
-    values look (same look levels) (data_of look n) (data_of look m) once (λ u v c g t. equal_are_same look once levels t.0 t.1 n m u v c g t.2) x y passes.0 passes.1 passes.2 d e p q
+    values look x y (same look levels) (data_of look n) (data_of look m) once (λ es here. off zero x es refl here)
+    (λ u v c g part t. equal_are_same look once levels t.0 t.1 n m u v c g (part_none look x u off part) t.2) passes.0 passes.1 passes.2 d e p q

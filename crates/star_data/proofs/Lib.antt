@@ -8,6 +8,7 @@ pub mod Fields
 pub mod Ints
 pub mod Strings
 pub mod Rising
+mod Elements
 mod Equal
 mod OneJson
 mod Back

@@ -1,5 +1,5 @@
 -- A program writes the JSON of a value as the report has it.
-use Rattle.std.proofs.Common.{arith, ◌≡◌, ◌+◌, ◌-◌, ℕ, zero, suc, ℤ, Bool, true, false, not, nat_eq, nat_lt, if◌then◌else◌, List, [], ◌∷◌, ◌++◌, length, Option, Some, None, refl, ap, sym, subst, ◌∙◌, ◌⊎◌, inl, inr, append_assoc, append-nil}
+use Rattle.std.proofs.Common.{arith, ◌≡◌, ◌+◌, ◌-◌, ℕ, zero, suc, Bool, true, false, not, nat_eq, nat_lt, if◌then◌else◌, List, [], ◌∷◌, ◌++◌, length, map, Option, Some, None, refl, ap, sym, subst, ◌∙◌, inl, inr, append_assoc}
 use Rattle.std.specs.Prelude.{codes, slice_get}
 use Rattle.std.specs.Option.{option_and_then, option_map}
 use Rattle.std.specs.Ordering.{is_lt, match_ordering, nat_cmp, ordering_reverse}
@@ -10,22 +10,22 @@ use Rattle.std.proofs.lemmas.Bool.{and_parts, ne_eqb}
 use Rattle.std.proofs.lemmas.Cmp.{nat_list_cmp_total}
 use Rattle.std.proofs.lemmas.Map.Lookups.{exact_bytes}
 use Rattle.json.specs.Print.{quoted}
-use Rattle.serde_json.specs.Data.{Data, Items, Members, array, boolean, item, member, no_items, no_members, null, object, put, string}
-use Rattle.serde_json.specs.Find.{of_integer}
+use Rattle.serde_json.specs.Data.{Data, Items, Members, array, boolean, item, member, no_items, no_members, null, object, put}
 use Rattle.serde_json.specs.Written.{comma_if, compact_text, items_text, members_text}
-use Rattle.star_store.specs.declared.fault.StoreFault.TheVariants.{Deep, Steps}
+use Rattle.star_store.specs.declared.fault.StoreFault.TheVariants.{Steps}
 use Rattle.star_store.specs.declared.layout.Layout.TheVariants as layout
 use Rattle.star_store.specs.declared.values.Value.{Value}
 use Rattle.star_store.specs.declared.values.Value.TheVariants as value
 use Rattle.star_store.specs.declared.values.Cell.{Cell}
 use Rattle.star_store.specs.declared.values.Cell.TheVariants as cell
 use Rattle.star_store.specs.Fields.{Fields, below_next, is_before, names_of, rises}
-use Rattle.star_store.specs.Json.{closing, comma, json, line, name_in, named, put_array, put_cell, put_member, put_object, put_place, put_value}
+use Rattle.star_store.specs.Json.{closing, comma, json, line, name_in, named, put_array, put_cell, put_member, put_object, put_place, put_set, put_value}
 use Rattle.star_store.specs.Sorting.{in_order, placed}
-use Rattle.star_store.specs.Spend.{Enough, Lacks, Spend, Spent, spend_then, visited}
+use Rattle.star_store.specs.Spend.{Enough, Lacks, Spend, Spent, spend_then}
 use Rattle.star_store.specs.Text.{Say, all_said, say}
 use Rattle.star_data.specs.Data.{cell_data, cell_of, data_of, entries_data, fields_data, items_data, key_in, text_in, utf8_of, value_data}
 use Rattle.star_data.specs.Laws.{KeysStandOnce, NamesRise, OneJson, SaysOnly}
+use Rattle.star_data.proofs.Elements.{set_as_array}
 use Rattle.star_data.proofs.Fields.{put_first}
 use Rattle.star_data.proofs.Ints.{int_is}
 use Rattle.star_data.proofs.Options.{chained, mapped}
@@ -243,6 +243,12 @@ cell_only look keys rise f g h n v (Some (cell.Dict es)) at d e out steps =
 cell_only look keys rise f g h n v (Some (cell.Struct fs)) at d e out steps =
     let ms = mapped object (fields_data g fs) d e in
     subst (λ z. SaysOnly (put_object layout.Compact n (f (n + 1)) fs out steps) (out ++ compact_text z)) ms.2 (object_only (f (n + 1)) g (h (n + 1)) n fs ms.0 (struct_row g fs ms.0 (rise v fs at) ms.1) out steps)
+cell_only look keys rise f g h n v (Some (cell.Set es)) at d e out steps =
+    let xs = map (λ (z : Value × Value). z.0) es in
+    let ds = mapped array (items_data g xs) d e in
+    let same : put_set layout.Compact n (f (n + 1)) es ≡ put_array layout.Compact n (f (n + 1)) xs = set_as_array layout.Compact n (f (n + 1)) es in
+    subst (λ (m : Say). SaysOnly (m out steps) (out ++ compact_text d)) (sym same)
+    (subst (λ z. SaysOnly (put_array layout.Compact n (f (n + 1)) xs out steps) (out ++ compact_text z)) ds.2 (array_only (f (n + 1)) g (h (n + 1)) n xs ds.0 ds.1 out steps))
 cell_only look keys rise f g h n v (Some (cell.Range r)) at d e out steps = absurd (let no : ⊥ = cc in no)
 cell_only look keys rise f g h n v (Some (cell.Func r)) at d e out steps = absurd (let no : ⊥ = cc in no)
 cell_only look keys rise f g h n v (Some (cell.Frame r)) at d e out steps = absurd (let no : ⊥ = cc in no)

@@ -1,5 +1,5 @@
 -- The parts of a value that is data are data.
-use Rattle.std.proofs.Common.{◌≡◌, ℕ, zero, suc, true, false, List, [], ◌∷◌, Option, Some, None, refl, ap, sym, subst, ◌∙◌}
+use Rattle.std.proofs.Common.{◌≡◌, ℕ, zero, suc, true, false, List, [], ◌∷◌, map, Option, Some, None, refl, ap, sym, subst, ◌∙◌}
 use Rattle.std.specs.Prelude.{slice_get}
 use Rattle.std.specs.Option.{option_and_then, option_map}
 use Rattle.serde_json.specs.Data.{Data, Items, Members, array, item, object, put}
@@ -8,7 +8,7 @@ use Rattle.star_store.specs.declared.values.Value.TheVariants as value
 use Rattle.star_store.specs.declared.values.Cell.{Cell}
 use Rattle.star_store.specs.declared.values.Cell.TheVariants as cell
 use Rattle.star_data.specs.Data.{cell_data, cell_of, data_of, entries_data, fields_data, items_data, key_in, text_in, utf8_of, value_data}
-use Rattle.star_data.specs.Parts.{IsOpaque, IsPart, StandsIn, built_in, function, in_dict, in_list, in_struct, in_tuple, int, key, method, name, range, text}
+use Rattle.star_data.specs.Parts.{IsOpaque, IsPart, StandsIn, built_in, function, in_dict, in_list, in_set, in_struct, in_tuple, int, key, method, name, range, text}
 use Rattle.star_data.specs.Laws.{DataIsPlain, NoCycleIsData, PartsAreData}
 use Rattle.star_data.proofs.Ints.{int_is}
 use Rattle.star_data.proofs.Options.{chained, mapped}
@@ -69,6 +69,9 @@ part look f v x d e (in_tuple xs i h at) =
 part look f v x d e (in_dict es i k h at) =
     let all = mapped object (entries_data look f es) d (by_cell look f v d (cell.Dict es) e h) in
     (entry-data look f es all.0 all.1 i (k, x) at).1
+part look f v x d e (in_set es i h at) =
+    let all = mapped array (items_data f (map (λ (z : Value × Value). z.0) es)) d (by_cell look f v d (cell.Set es) e h) in
+    item-data f (map (λ (z : Value × Value). z.0) es) all.0 all.1 i x at
 part look f v x d e (in_struct fs i n h at) =
     let all = mapped object (fields_data f fs) d (by_cell look f v d (cell.Struct fs) e h) in
     (field-data f fs all.0 all.1 i (n, x) at).1
@@ -86,6 +89,7 @@ is_text (Some (cell.Range r)) t e = absurd (let no : ⊥ = cc in no)
 is_text (Some (cell.Func r)) t e = absurd (let no : ⊥ = cc in no)
 is_text (Some (cell.Frame r)) t e = absurd (let no : ⊥ = cc in no)
 is_text (Some (cell.Bound m x)) t e = absurd (let no : ⊥ = cc in no)
+is_text (Some (cell.Set es)) t e = absurd (let no : ⊥ = cc in no)
 is_text (Some (cell.Struct fs)) t e = absurd (let no : ⊥ = cc in no)
 is_text None t e = absurd (let no : ⊥ = cc in no)
 

@@ -1,5 +1,5 @@
 -- The data of a value comes back from its text.
-use Rattle.std.proofs.Common.{arith, ltb-true, ◌≡◌, ◌^◌, max, ℕ, zero, suc, ℤ, pos, negsuc, true, List, [], ◌∷◌, Option, Some, None, refl, ap, sym, subst, ◌∙◌}
+use Rattle.std.proofs.Common.{arith, ltb-true, ◌≡◌, ◌^◌, max, ℕ, zero, suc, ℤ, pos, negsuc, true, List, [], ◌∷◌, map, Option, Some, None, refl, ap, sym, subst, ◌∙◌}
 use Rattle.std.specs.Prelude.{slice_get}
 use Rattle.std.specs.Option.{option_and_then, option_map}
 use Rattle.json.specs.Tree as tree
@@ -14,7 +14,7 @@ use Rattle.star_store.specs.declared.values.Cell.{Cell}
 use Rattle.star_store.specs.declared.values.Cell.TheVariants as cell
 use Rattle.star_data.specs.Data.{cell_data, cell_of, data_of, entries_data, fields_data, items_data, key_in, utf8_of, value_data}
 use Rattle.star_data.specs.Laws.{ReadsBack, SerdeReadsBack, TextTells}
-use Rattle.star_data.specs.Parts.{IsPart, in_dict, in_list, in_struct, in_tuple}
+use Rattle.star_data.specs.Parts.{IsPart, in_dict, in_list, in_set, in_struct, in_tuple}
 use Rattle.star_data.specs.Reading.{read_within}
 use Rattle.star_data.proofs.Ints.{int_is}
 use Rattle.star_data.proofs.Back.{ComesBack, ItemsComeBack, MembersComeBack, array_back, boolean_back, negative_back, null_back, object_back, put_back, read_back, string_back, unsigned_back}
@@ -71,6 +71,9 @@ cell_back look f n v (Some (cell.Bound m r)) d is parts e = absurd (let no : ⊥
 cell_back look f n v (Some (cell.Struct fs)) d is parts e =
     let all = mapped object (fields_data f fs) d e in
     subst (ComesBack (suc n)) all.2 (object_back n all.0 (fields_come f n fs all.0 (λ i x y at some. parts x.1 y (in_struct fs i x.0 is at) some) all.1) (sorted_fields f fs all.0 all.1))
+cell_back look f n v (Some (cell.Set es)) d is parts e =
+    let all = mapped array (items_data f (map (λ (z : Value × Value). z.0) es)) d e in
+    subst (ComesBack (suc n)) all.2 (array_back n all.0 (items_come f n (map (λ (z : Value × Value). z.0) es) all.0 (λ i x y at some. parts x y (in_set es i is at) some) all.1))
 cell_back look f n v None d is parts e = absurd (let no : ⊥ = cc in no)
 
 value_back : (look : Value → Option Cell) (f : Value → Option Data) (n : ℕ) (v : Value) (d : Data) → PartsComeBack look f n v → value_data look f v ≡ Some d → ComesBack (suc n) d

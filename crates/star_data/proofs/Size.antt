@@ -1,5 +1,5 @@
 -- The JSON of a value is at most one and a half times as long as its text.
-use Rattle.std.proofs.Common.{arith, ◌≡◌, ◌≤◌, ◌<◌, ◌+◌, ◌*◌, ◌-◌, ℕ, zero, suc, ℤ, Bool, true, false, nat_eq, nat_lt, nat_le, ◌&&◌, List, [], ◌∷◌, ◌++◌, length, get_or, Option, Some, None, IsUtf8, refl, ap, ap₂, sym, subst, ◌∙◌, append_assoc, append-nil, length-append, inl, inr, if◌then◌else◌}
+use Rattle.std.proofs.Common.{arith, ◌≡◌, ◌≤◌, ◌<◌, ◌+◌, ◌*◌, ◌-◌, ℕ, zero, suc, ℤ, Bool, true, false, nat_eq, nat_lt, nat_le, ◌&&◌, List, [], ◌∷◌, ◌++◌, length, get_or, map, Option, Some, None, IsUtf8, refl, ap, ap₂, sym, subst, ◌∙◌, append_assoc, append-nil, length-append, inl, inr, if◌then◌else◌}
 use Rattle.std.specs.Prelude.{codes, flat_map, slice_get}
 use Rattle.std.specs.Fmt.{signed_decimal}
 use Rattle.std.specs.Str.{chars}
@@ -23,12 +23,13 @@ use Rattle.star_store.specs.declared.values.Value.TheVariants as value
 use Rattle.star_store.specs.declared.values.Cell.{Cell}
 use Rattle.star_store.specs.declared.values.Cell.TheVariants as cell
 use Rattle.star_store.specs.Spend.{Enough, Lacks, Spend, Spent, spend_then, visited}
-use Rattle.star_store.specs.Text.{Say, all_said, bool_text, on_path, quoted, say, say_cell, say_dict, say_entries, say_entry, say_field, say_fields, say_item, say_items, say_list, say_named, say_new_dict, say_new_list, say_pair, say_place, say_struct, say_tuple, say_value, separator, shown, shown_char, text, then_say, tuple_end}
+use Rattle.star_store.specs.Text.{Say, all_said, bool_text, on_path, quoted, say, say_cell, say_dict, say_entries, say_entry, say_field, say_fields, say_item, say_items, say_list, say_named, say_new_dict, say_new_list, say_pair, say_place, say_set, say_struct, say_tuple, say_value, separator, shown, shown_char, text, then_say, tuple_end}
 use Rattle.star_data.specs.Data.{cell_data, cell_of, data_of, entries_data, fields_data, items_data, key_in, utf8_of, value_data}
 use Rattle.star_data.specs.Laws.{IsNoLonger, IsPlain, NamesArePlain}
 use Rattle.star_data.specs.Paths.{AllStandInEach, StandsInEach}
+use Rattle.star_data.proofs.Elements.{elements_are_items}
 use Rattle.star_data.proofs.Ints.{int_is}
-use Rattle.star_data.proofs.Builds.{in_a_dict, in_a_list, in_a_struct, in_a_tuple, mapped_at, no_cell_data, starts}
+use Rattle.star_data.proofs.Builds.{in_a_dict, in_a_list, in_a_set, in_a_struct, in_a_tuple, mapped_at, no_cell_data, starts}
 use Rattle.star_data.proofs.Options.{chained, mapped}
 use Rattle.star_data.proofs.Parts.{is_text}
 use Rattle.star_data.proofs.Sent.{int_text}
@@ -382,6 +383,12 @@ cell_said look plain g n path v stands within keys (Some (cell.Dict es)) is d e 
     let inside : say_new_dict (g (path ++ v ∷ [])) es out m ≡ Enough new left = sym (ap (λ b. (let s : Spent (List ℕ) = if b then say (codes "{...}") out m else say_new_dict (g (path ++ v ∷ [])) es out m in s)) off) ∙ h in
     object_said look (g (path ++ v ∷ [])) f es all.0 (λ j x y at some. within (path ++ v ∷ []) x.1 y (values.all j x.1 (mapped_at (λ (z : Value × Value). z.1) es j x at)) some) (keys (path ++ v ∷ [])) all.1 out new m left inside
     ))
+cell_said look plain g n path v stands within keys (Some (cell.Set es)) is d e =
+    let f = data_of look n in
+    let xs = map (λ (z : Value × Value). z.0) es in
+    let all = mapped array (items_data f xs) d e in
+    let text : say_set (g path) es ≡ then_say (say (codes "set([")) (then_say (say_items (g path) xs) (say (codes "])"))) = ap (λ (m : Say). then_say (say (codes "set([")) (then_say m (say (codes "])")))) (elements_are_items (g path) es) in
+    subst (λ (m : Say). SaysEnough m d) (sym text) (subst (SaysEnough (then_say (say (codes "set([")) (then_say (say_items (g path) xs) (say (codes "])"))))) all.2 (array_said (g path) f xs all.0 (codes "set([") (codes "])") (omega arith) (omega arith) (of_item look path xs (in_a_set look path v es is stands) g f within) all.1))
 cell_said look plain g n path v stands within keys (Some (cell.Range r)) is d e = absurd (let no : ⊥ = cc in no)
 cell_said look plain g n path v stands within keys (Some (cell.Func r)) is d e = absurd (let no : ⊥ = cc in no)
 cell_said look plain g n path v stands within keys (Some (cell.Frame r)) is d e = absurd (let no : ⊥ = cc in no)

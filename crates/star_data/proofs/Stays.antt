@@ -1,5 +1,5 @@
 -- Data stays where cells stay.
-use Rattle.std.proofs.Common.{arith, ◌≡◌, ◌+◌, ℕ, zero, suc, List, [], ◌∷◌, Option, Some, None, refl, ap, sym, ◌∙◌}
+use Rattle.std.proofs.Common.{arith, ◌≡◌, ◌+◌, ℕ, zero, suc, List, [], ◌∷◌, map, Option, Some, None, refl, ap, sym, ◌∙◌}
 use Rattle.std.specs.Option.{option_and_then, option_map}
 use Rattle.serde_json.specs.Data.{Data, Items, Members, array, item, object, put}
 use Rattle.star_store.specs.declared.values.Value.{Value}
@@ -65,6 +65,9 @@ cell-stays look see s f g h (Some (cell.Bound m x)) p k d e = absurd (let no : �
 cell-stays look see s f g h (Some (cell.Struct fs)) p k d e =
     let all = mapped object (fields_data f fs) d e in
     ap (cell_data see g) (k (cell.Struct fs) refl) ∙ (ap (option_map object) (fields-stay f g h fs all.0 all.1) ∙ ap Some all.2)
+cell-stays look see s f g h (Some (cell.Set es)) p k d e =
+    let all = mapped array (items_data f (map (λ (x : Value × Value). x.0) es)) d e in
+    ap (cell_data see g) (k (cell.Set es) refl) ∙ (ap (option_map array) (items-stay f g h (map (λ (x : Value × Value). x.0) es) all.0 all.1) ∙ ap Some all.2)
 cell-stays look see s f g h None p k d e = absurd (let no : ⊥ = cc in no)
 
 value-stays : (look see : Value → Option Cell) → Stay Value Cell look see → (f g : Value → Option Data) → Stay Value Data f g → Stay Value Data (value_data look f) (value_data see g)

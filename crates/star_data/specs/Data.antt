@@ -1,5 +1,5 @@
 -- Values as data: the JSON of a value, if it has one.
-use Rattle.std.specs.Prelude.{ℕ, zero, suc, ℤ, if◌then◌else◌, List, [], ◌∷◌, Option, Some, None, slice_get}
+use Rattle.std.specs.Prelude.{ℕ, zero, suc, ℤ, if◌then◌else◌, List, [], ◌∷◌, map, Option, Some, None, slice_get}
 use Rattle.std.specs.Option.{option_and_then, option_map}
 use Rattle.std.specs.Str.{is_utf8}
 use Rattle.serde_json.specs.Data.{Data, Items, Members, array, boolean, item, no_items, no_members, null, number, object, put, string}
@@ -47,13 +47,14 @@ fields_data f [] = Some no_members
 fields_data f (e ∷ es) =
     option_and_then (λ k. option_and_then (λ d. option_map (put k d) (fields_data f es)) (f e.1)) (utf8_of e.0)
 
--- strings, lists and tuples of data, dictionaries, structs; nothing else
+-- strings, lists, tuples and sets of data, dictionaries, structs; nothing else
 abbrev pub cell_data : (Value → Option Cell) → (Value → Option Data) → Option Cell → Option Data
 cell_data look f (Some (cell.Text t)) = option_map string (utf8_of t)
 cell_data look f (Some (cell.Tuple xs)) = option_map array (items_data f xs)
 cell_data look f (Some (cell.List xs)) = option_map array (items_data f xs)
 cell_data look f (Some (cell.Dict es)) = option_map object (entries_data look f es)
 cell_data look f (Some (cell.Struct fs)) = option_map object (fields_data f fs)
+cell_data look f (Some (cell.Set es)) = option_map array (items_data f (map (λ e. e.0) es))
 cell_data look f _ = None
 
 -- ints of 64 bits, which all ints of a run are

@@ -1,5 +1,5 @@
 -- Laws of values as data.
-use Rattle.std.specs.Prelude.{◌≡◌, ◌≤◌, ◌*◌, ◌++◌, ◌⊎◌, ℕ, suc, true, List, [], Option, Some, length, slice_get}
+use Rattle.std.specs.Prelude.{◌≡◌, ◌≤◌, ◌*◌, ◌⊎◌, ℕ, suc, true, List, [], Option, Some, length, slice_get}
 use Rattle.serde_json.specs.Data.{Data, depth}
 use Rattle.serde_json.specs.Read.{max_depth, read}
 use Rattle.serde_json.specs.Written.{compact_text}
@@ -51,11 +51,18 @@ KeysStandOnce look =
     → slice_get es i ≡ Some x → slice_get es j ≡ Some y → text_in (cell_of look x.0) ≡ Some t
     → text_in (cell_of look y.0) ≡ Some t → i ≡ j
 
--- values that are data and that equality finds equal have the same JSON
+-- a value is no set, and no value inside of it is one
+abbrev pub HasNoSet : (Value → Option Cell) → Value → Type 0
+HasNoSet look x =
+    (k : ℕ) (v : Value) (es : List (Value × Value)) → StandsIn look k x v → cell_of look v ≡ Some (cell.Set es) → ⊥
+
+-- values that are data and that equality finds equal have the same JSON, if there is no set in the left one. Sets with
+-- the same elements in another order are equal, and their JSON is not
 abbrev pub EqualAreSame : Type 0
 EqualAreSame =
     (look : Value → Option Cell) → KeysStandOnce look → (levels steps left n m : ℕ) (x y : Value) (d e : Data)
-    → same look levels x y steps ≡ Enough true left → data_of look n x ≡ Some d → data_of look m y ≡ Some e → d ≡ e
+    → HasNoSet look x → same look levels x y steps ≡ Enough true left → data_of look n x ≡ Some d
+    → data_of look m y ≡ Some e → d ≡ e
 
 -- the text of a value's JSON is read back as its data, by a reader that opens as many levels
 abbrev pub ReadsBack : Type 0

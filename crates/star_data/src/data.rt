@@ -35,9 +35,9 @@ struct Stores<'a> {
     homes: &'a Homes<'a>,
 }
 
-/// The text, and after it the JSON of a value that nests less deep than `levels`: None, bools, ints and strings, lists
-/// and tuples as arrays, structs and dictionaries whose keys are all strings as objects, with their members in byte
-/// order. The text alone for a value that contains anything else, or itself.
+/// The text, and after it the JSON of a value that nests less deep than `levels`: None, bools, ints and strings, lists,
+/// tuples and sets as arrays, structs and dictionaries whose keys are all strings as objects, with their members in
+/// byte order. The text alone for a value that contains anything else, or itself.
 ///
 /// It visits no more than the text of the value does.
 pub fn write_data<'a>(
@@ -171,6 +171,9 @@ fn write_cell<'a>(
         Some(Cell::Struct(fields)) => {
             write_struct(alloc, stores, levels, path, fields.get(), out)
         }
+        Some(Cell::Set(elements)) => {
+            write_set(alloc, stores, levels, path, elements.as_slice(), out)
+        }
         _ => Ok(false),
     }
 }
@@ -252,6 +255,33 @@ fn write_items<'a>(
     out.begin_array()?;
     for item in items {
         if !write_value(alloc, stores, levels, path, *item, out)? {
+            return Ok(false);
+        }
+    }
+    out.end_array()?;
+    Ok(true)
+}
+
+/// The elements of a set, in their order. None of them can contain the set.
+#[cycle(write)]
+fn write_set<'a>(
+    alloc: Global,
+    stores: &Stores<'a>,
+    levels: u32,
+    path: &mut Vec<Value>,
+    elements: &'a [(Value, Value)],
+    out: &mut Writer,
+) -> Result<bool, AllocError>
+    requires { AllStandInEach (look_in stores.now) path.old.items (map (λ e. e.0) elements.now) }
+    ensures data { IfOk result (λ b. Sends
+        (option_map array (items_data (data_of (look_in stores.now) levels) (map (λ e. e.0) elements.now))) b
+        out.old.tokens out.new.tokens) }
+    ensures path { OnOk result (path.new.items ≡ path.old.items) }
+    ensures before { out.new.before ≡ out.old.before }
+{
+    out.begin_array()?;
+    for element in elements {
+        if !write_value(alloc, stores, levels, path, element.0, out)? {
             return Ok(false);
         }
     }

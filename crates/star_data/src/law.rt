@@ -1,4 +1,5 @@
-//! Laws of values as JSON: more cells and freezing keep it, equal values have the same, and it is read back.
+//! Laws of values as JSON: more cells and freezing keep it, equal values without sets have the same, and it is read
+//! back.
 
 ghost use Rattle.star_data.specs.Laws.{DataIsPlain, DataStays, EqualAreSame, IsNoLonger, NoCycleIsData, OneData, OneJson, PartsAreData, ReadsBack, SerdeReadsBack, TextTells};
 
@@ -27,7 +28,7 @@ pub fn no_cycle_is_data()
     ensures { NoCycleIsData }
 {}
 
-/// Values that are data and that equality finds equal have the same JSON.
+/// Values that are data and that equality finds equal have the same JSON, if there is no set in the left one.
 pub fn equal_are_same()
     ensures { EqualAreSame }
 {}

@@ -8,7 +8,7 @@ use Rattle.star_machine.specs.declared.fault.EvalError.TheVariants.{Memory, Faul
 use Rattle.star_machine.specs.Refines.{Ends}
 use Rattle.star_meaning.specs.declared.fault.FaultCode.TheVariants.{Key}
 use Rattle.star_meaning.specs.Expressions.{fresh_entries, fresh_entry}
-use Rattle.star_meaning.specs.Operators.{with_entry}
+use Rattle.star_meaning.specs.Entries.{with_entry}
 use Rattle.star_meaning.specs.Program.{Setting}
 use Rattle.star_meaning.specs.Run.{State, Outcome, Done, and_then, check, give, seeing}
 use Rattle.star_meaning.specs.Values.{check_key, place_in}

@@ -1,3 +1,4 @@
+pub mod Augmented
 pub mod Bound
 pub mod Clauses
 pub mod Fresh

@@ -2,3 +2,4 @@
 pub mod Calling
 pub mod Forms
 pub mod Steps
+pub mod Merges

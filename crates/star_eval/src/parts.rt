@@ -1,7 +1,8 @@
 //! The entries of a dictionary display, and the new value of an augmented assignment.
 
-ghost use Rattle.std.specs.Prelude.{[], OnOk};
+ghost use Rattle.std.specs.Prelude.{◌≡◌, [], OnOk};
 ghost use Rattle.star_builtin.specs.Dicts.{Puts};
+ghost use Rattle.star_eval.specs.Merges.{merge_of};
 ghost use Rattle.star_machine.specs.DictBuilder.{IsGathered};
 ghost use Rattle.star_machine.specs.Refines.{Refines};
 ghost use Rattle.star_meaning.specs.Expressions.{fresh_entries, fresh_entry};
@@ -12,7 +13,9 @@ use star_machine::fault::{EvalError, fault_at};
 use star_machine::gathered::DictBuilder;
 use star_machine::machine::Machine;
 use star_machine::pairs::update_with;
+use star_machine::sets::augment_set;
 use star_meaning::fault::FaultCode;
+use star_meaning::merge::Merge;
 use star_method::lists::extend;
 use star_operators::operators::operate;
 use star_store::values::{Entries, Value};
@@ -60,8 +63,22 @@ pub(crate) fn fresh_entries(
     Ok(gathered.into_entries())
 }
 
-/// The new value of an augmented assignment: `+=` on a list works as `extend`, `|=` on a dictionary as `update`; else
-/// as the operator.
+/// How an operator writes a set in an augmented assignment; `None` if it does not.
+fn merge_of(operator: BinaryOperator) -> Option<Merge>
+    ensures { result ≡ merge_of operator }
+{
+    match operator {
+        BinaryOperator::BitOr => Some(Merge::Union),
+        BinaryOperator::BitAnd => Some(Merge::Intersection),
+        BinaryOperator::Subtract => Some(Merge::Difference),
+        BinaryOperator::BitXor => Some(Merge::SymmetricDifference),
+        _ => None,
+    }
+}
+
+/// The new value of an augmented assignment: `+=` on a list works as `extend`, `|=` on a dictionary as `update`, `|=`,
+/// `&=`, `-=` and `^=` on a set as its methods that write; else as the operator.
+#[tactic(auto, using(crate::proofs::Augmented::list_add, crate::proofs::Augmented::list_other, crate::proofs::Augmented::dict_or, crate::proofs::Augmented::dict_other, crate::proofs::Augmented::set_merged, crate::proofs::Augmented::set_other, crate::proofs::Augmented::otherwise))]
 pub(crate) fn augmented(
     machine: &mut Machine,
     world: &World,
@@ -74,15 +91,25 @@ pub(crate) fn augmented(
     ensures { Refines (spec.augmented world.now.setting levels line operator x y machine.old) result machine.new }
 {
     let setting = world.setting();
-    match (operator, machine.kind(setting, x)) {
-        (BinaryOperator::Add, Kind::List) => {
-            extend(machine, setting, line, x, y)?;
-            Ok(x)
-        }
-        (BinaryOperator::BitOr, Kind::Dict) => {
-            update_with(machine, setting, levels, line, x, Some(y), &[])?;
-            Ok(x)
-        }
+    match machine.kind(setting, x) {
+        Kind::List => match operator {
+            BinaryOperator::Add => {
+                extend(machine, setting, line, x, y)?;
+                Ok(x)
+            }
+            _ => operate(machine, setting, levels, line, operator, x, y),
+        },
+        Kind::Dict => match operator {
+            BinaryOperator::BitOr => {
+                update_with(machine, setting, levels, line, x, Some(y), &[])?;
+                Ok(x)
+            }
+            _ => operate(machine, setting, levels, line, operator, x, y),
+        },
+        Kind::Set => match merge_of(operator) {
+            Some(merge) => augment_set(machine, setting, levels, line, merge, x, y),
+            None => operate(machine, setting, levels, line, operator, x, y),
+        },
         _ => operate(machine, setting, levels, line, operator, x, y),
     }
 }

@@ -17,7 +17,7 @@ pub(crate) enum Wanted {
     MaybeText,
     /// An int or None.
     MaybeInt,
-    /// A list, tuple, dict or range.
+    /// A list, tuple, dict, set or range.
     Iterable,
     /// An iterable or a string.
     Sized,
@@ -25,14 +25,17 @@ pub(crate) enum Wanted {
     Numeral,
     /// A dict, or an iterable of pairs.
     Pairs,
-    /// Any value except a list or a dict.
+    /// Any value except a list, a dict or a set.
     Key,
 }
 
 impl Wanted {
     /// Whether a value of this type may be of this kind.
     pub(crate) fn is_met(self, kind: Type) -> bool {
-        let is_iterable = matches!(kind, Type::List | Type::Tuple | Type::Dict | Type::Range);
+        let is_iterable = matches!(
+            kind,
+            Type::List | Type::Tuple | Type::Dict | Type::Set | Type::Range
+        );
         match self {
             Wanted::Anything => true,
             Wanted::Int => matches!(kind, Type::Int),
@@ -44,7 +47,7 @@ impl Wanted {
             Wanted::Iterable | Wanted::Pairs => is_iterable,
             Wanted::Sized => is_iterable || matches!(kind, Type::Text),
             Wanted::Numeral => matches!(kind, Type::Text | Type::Int | Type::Bool),
-            Wanted::Key => !matches!(kind, Type::List | Type::Dict),
+            Wanted::Key => !matches!(kind, Type::List | Type::Dict | Type::Set),
         }
     }
 
@@ -88,6 +91,7 @@ const FUNCTIONS: &[(&'static str, Wanted, Wanted)] = &[
     ("hash", Wanted::Text, Wanted::Anything),
     ("json.decode", Wanted::Text, Wanted::Anything),
     ("ord", Wanted::Text, Wanted::Anything),
+    ("set", Wanted::Iterable, Wanted::Anything),
 ];
 
 /// The first and second argument of methods that do not take every value.
@@ -99,6 +103,45 @@ const METHODS: &[(Type, &'static str, Wanted, Wanted)] = &[
     (Type::Dict, "pop", Wanted::Key, Wanted::Anything),
     (Type::Dict, "setdefault", Wanted::Key, Wanted::Anything),
     (Type::Dict, "update", Wanted::Pairs, Wanted::Anything),
+    (Type::Set, "add", Wanted::Key, Wanted::Anything),
+    (Type::Set, "difference", Wanted::Iterable, Wanted::Iterable),
+    (
+        Type::Set,
+        "difference_update",
+        Wanted::Iterable,
+        Wanted::Iterable,
+    ),
+    (Type::Set, "discard", Wanted::Key, Wanted::Anything),
+    (
+        Type::Set,
+        "intersection",
+        Wanted::Iterable,
+        Wanted::Iterable,
+    ),
+    (
+        Type::Set,
+        "intersection_update",
+        Wanted::Iterable,
+        Wanted::Iterable,
+    ),
+    (Type::Set, "isdisjoint", Wanted::Iterable, Wanted::Anything),
+    (Type::Set, "issubset", Wanted::Iterable, Wanted::Anything),
+    (Type::Set, "issuperset", Wanted::Iterable, Wanted::Anything),
+    (Type::Set, "remove", Wanted::Key, Wanted::Anything),
+    (
+        Type::Set,
+        "symmetric_difference",
+        Wanted::Iterable,
+        Wanted::Anything,
+    ),
+    (
+        Type::Set,
+        "symmetric_difference_update",
+        Wanted::Iterable,
+        Wanted::Anything,
+    ),
+    (Type::Set, "union", Wanted::Iterable, Wanted::Iterable),
+    (Type::Set, "update", Wanted::Iterable, Wanted::Iterable),
     (Type::Text, "startswith", Wanted::Texts, Wanted::Anything),
     (Type::Text, "endswith", Wanted::Texts, Wanted::Anything),
     (Type::Text, "find", Wanted::Text, Wanted::Int),
@@ -185,6 +228,7 @@ const FUNCTION_COUNTS: &[(&'static str, &'static str)] = &[
     ("range", "one to three ints"),
     ("getattr", "two or three values"),
     ("hasattr", "two values"),
+    ("set", "at most one value"),
     ("struct", "values by name alone"),
 ];
 
@@ -202,6 +246,14 @@ const METHOD_COUNTS: &[(Type, &'static str, &'static str)] = &[
     (Type::Dict, "setdefault", "one or two values"),
     (Type::Dict, "update", "at most one value"),
     (Type::Dict, "values", "no value"),
+    (Type::Set, "clear", "no value"),
+    (Type::Set, "difference", "any number of values"),
+    (Type::Set, "difference_update", "any number of values"),
+    (Type::Set, "intersection", "any number of values"),
+    (Type::Set, "intersection_update", "any number of values"),
+    (Type::Set, "pop", "no value"),
+    (Type::Set, "union", "any number of values"),
+    (Type::Set, "update", "any number of values"),
     (Type::Text, "find", "one to three values"),
     (Type::Text, "lower", "no value"),
     (Type::Text, "lstrip", "at most one value"),
@@ -274,6 +326,24 @@ pub(crate) fn methods(kind: Type) -> &'static [&'static str] {
             "setdefault",
             "update",
             "values",
+        ],
+        Type::Set => &[
+            "add",
+            "clear",
+            "difference",
+            "difference_update",
+            "discard",
+            "intersection",
+            "intersection_update",
+            "isdisjoint",
+            "issubset",
+            "issuperset",
+            "pop",
+            "remove",
+            "symmetric_difference",
+            "symmetric_difference_update",
+            "union",
+            "update",
         ],
         Type::Text => &[
             "endswith",

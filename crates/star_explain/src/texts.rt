@@ -65,6 +65,7 @@ fn with_article(value: &Shown) -> &'static str {
         Type::Nothing => "None",
         Type::BuiltIn => "a built-in function",
         Type::Struct => "a struct",
+        Type::Set => "a set",
         Type::Module => "a module",
         Type::Other => "a value",
     }

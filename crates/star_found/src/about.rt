@@ -16,6 +16,7 @@ pub enum Type {
     Function,
     BuiltIn,
     Struct,
+    Set,
     Module,
     /// Not a value that a program can have.
     Other,
@@ -36,6 +37,7 @@ impl Type {
             Type::Function => "function",
             Type::BuiltIn => "builtin_function_or_method",
             Type::Struct => "struct",
+            Type::Set => "set",
             Type::Module => "module",
             Type::Other => "value",
         }

@@ -4,7 +4,7 @@ use star_folder::folder::Kind;
 use star_label::label::Label;
 use star_mistakes::near::nearest;
 use star_mistakes::place::shown;
-use star_words::pattern::Listing;
+use star_words::pattern::{Apart, Listing};
 use std::alloc::{AllocError, Global};
 use std::collections::BTreeMap;
 
@@ -42,10 +42,28 @@ fn about_kind(kind: Kind) -> Option<&'static str> {
     match kind {
         Kind::File => None,
         Kind::Folder => Some("is a folder\n"),
-        Kind::Other => Some(
-            "is a link that leads to no file, or out of the folder, or it is no file\n  help: `--links=anywhere` follows links out of the folder\n",
-        ),
+        Kind::Other => Some("is a link that leads to no file, or it is no file\n"),
     }
+}
+
+/// Why the file of a label is not read, by where its path leads.
+fn about_place(why: Apart) -> &'static str {
+    match why {
+        Apart::Outside => {
+            "is not read: a link leads out of the folder\n  help: `--links=anywhere` follows it\n"
+        }
+        Apart::Linked => {
+            "is not read: a link leads there\n  help: without `--links=none` links in the folder are followed\n"
+        }
+        Apart::System => "is not read: it is below /proc\n",
+    }
+}
+
+/// Lines about a label that has no file, by where its path leads.
+pub fn about_apart(alloc: Global, label: &Label, why: Apart) -> Result<String, AllocError> {
+    let label = shown(alloc, label.text())?;
+    let about = about_place(why);
+    format!(in alloc; "  `{label}` {about}")
 }
 
 /// The name of an entry that a name was probably meant for.
@@ -81,13 +99,16 @@ fn about_folder<L: Listing>(
     }
 }
 
-/// Lines about the file of a label: that there is none, and the label of the file beside it that was probably meant.
-/// None if the file is there.
+/// Lines about the file of a label: that there is none, or why it is not read, or the label of the file beside it that
+/// was probably meant. None if the file is there.
 pub fn about_file<L: Listing>(
     alloc: Global,
     folder: &mut L,
     label: &Label,
 ) -> Result<Option<String>, AllocError> {
+    if let Some(why) = folder.apart(alloc, label) {
+        return Ok(Some(about_apart(alloc, label, why)?));
+    }
     let package = label.package();
     let name = name_of(label);
     let Ok(entries) = folder.entries(alloc, package) else {

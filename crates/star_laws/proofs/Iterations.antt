@@ -18,7 +18,7 @@ use Rattle.star_laws.specs.Iterations.{AreCounted, FilesBeginWithNoLoop, LoopsAr
 pub files_begin_with_no_loop : FilesBeginWithNoLoop
 files_begin_with_no_loop w steps = record { counted = λ at a h. cc; there = λ at h. refl }
 
--- a number if a cell is a list or a dictionary, else 0
+-- a number if a cell is a list, a dictionary or a set, else 0
 abbrev of_container : Cell → ℕ → ℕ
 of_container c n = if is_container c then n else 0
 

@@ -26,7 +26,7 @@ loops_over home at (v ∷ vs) = (if leads_to v home at then 1 else 0) + loops_ov
 
 -- the counters of a module are right for the open loops, given by the values that they go over, the innermost first
 pub record AreCounted (s : Store) (loops : List Value) : Type 0 where
-  -- each list and dictionary has as many open iterations as loops go over it, and no other cell has any
+  -- each list, dictionary and set has as many open iterations as loops go over it, and no other cell has any
   pub counted : (at : ℕ) (a : HeapCell) → slice_get s.cells at ≡ Some a
       → a.iterations ≡ (if is_container a.cell then loops_over s.home at loops else 0)
   -- no loop goes over a cell that the module does not have
@@ -49,8 +49,8 @@ LoopsAreCounted = (w : Setting) (line n : ℕ) (v : Value) (s t : State) (loops 
     → (AreCounted s.store loops → iterate w line v s ≡ Done n t → AreCounted t.store (v ∷ loops))
     × (AreCounted s.store (v ∷ loops) → leave v s ≡ Done tt t → AreCounted t.store loops)
 
--- The law: the rules of writing ask for the open iterations of a list or a dictionary. These are the open loops over
--- it.
+-- The law: the rules of writing ask for the open iterations of a list, a dictionary or a set. These are the open loops
+-- over it.
 abbrev pub OpenIterationsAreOpenLoops : Type 0
 OpenIterationsAreOpenLoops = (s : Store) (loops : List Value) (at : ℕ) (a : HeapCell) → AreCounted s loops
     → slice_get s.cells at ≡ Some a → is_container a.cell ≡ true → iterations_of s (value.Ref s.home at)

@@ -80,9 +80,9 @@ pub fn files_begin_with_no_loop()
     ensures { FilesBeginWithNoLoop }
 {}
 
-/// The counters of open iterations are right for the loops that are open if each list and dictionary of the module has
-/// as many as loops go over it, and no other cell has any. If they are right before an expression or a statement that
-/// ends well, they are right after it, with all that it called, made and looped over. (`docs/LANGUAGE.md`,
+/// The counters of open iterations are right for the loops that are open if each list, dictionary and set of the module
+/// has as many as loops go over it, and no other cell has any. If they are right before an expression or a statement
+/// that ends well, they are right after it, with all that it called, made and looped over. (`docs/LANGUAGE.md`,
 /// "Iterables".)
 pub fn runs_end_their_loops()
     ensures { RunsEndTheirLoops }
@@ -94,7 +94,7 @@ pub fn loops_are_counted()
     ensures { LoopsAreCounted }
 {}
 
-/// The rules of writing ask for the open iterations of a list or a dictionary. These are the open loops over it.
+/// The rules of writing ask for the open iterations of a list, a dictionary or a set. These are the open loops over it.
 /// (`docs/LANGUAGE.md`, "Values".)
 pub fn open_iterations_are_open_loops()
     ensures { OpenIterationsAreOpenLoops }

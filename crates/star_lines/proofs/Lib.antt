@@ -1,3 +1,4 @@
 pub mod Lines
 pub mod Unique
 pub mod Joins
+pub mod Texts

@@ -1,13 +1,14 @@
 -- Joins of the reports of one set of files.
-use Rattle.std.specs.Prelude.{◌≡◌, ◌⊎◌, ⊤, ℕ, false, List, [], ◌∷◌, Contains, map}
+use Rattle.std.specs.Prelude.{◌≡◌, ◌<◌, ◌^◌, ◌⊎◌, ⊤, ℕ, false, List, [], ◌∷◌, ◌++◌, Contains, length, map}
+use Rattle.std.specs.List.{concat}
 use Rattle.star_label.specs.Files.{File, IsOrdered}
 use Rattle.star_plan.specs.Plan.{Plan}
 use Rattle.star_plan.specs.Reading.{IsPlanOf}
 use Rattle.star_join.specs.Laws.{HasRootsAmong}
 use Rattle.star_report.specs.Wanted.{IsFullText}
 use Rattle.star_report.specs.declared.wanted.Wanted.{Wanted}
-use Rattle.star_shards.specs.Joined.{IsJoined}
-use Rattle.star_shards.specs.Lines.{Report}
+use Rattle.star_shards.specs.Joined.{IsJoined, IsJoinedText}
+use Rattle.star_shards.specs.Lines.{Report, report_text}
 use Rattle.star_lines.specs.Lines.{HavePlainLabels, entry_text}
 
 -- a report, as `--join` reads it, is that of a plan of files
@@ -41,3 +42,20 @@ ReportsJoin =
     → wanted.only_roots ≡ false → HavePlainLabels files → IsOrdered files → IsPlanOf files plan
     → AreParts files plan ps → ((n : ℕ) → Contains plan.roots n → HasRoot ps n) → AreOf wanted files ps rs
     → IsOf wanted files plan whole → IsJoined rs joined → joined ≡ whole
+
+-- each of some texts is the report of its own plan
+unfoldable pub AreTexts : Wanted → List File → List Plan → List (List ℕ) → Type 0
+AreTexts wanted files [] [] = ⊤
+AreTexts wanted files (p ∷ ps) (t ∷ ts) = IsFullText wanted files p t × AreTexts wanted files ps ts
+AreTexts wanted files [] (t ∷ ts) = ⊥
+AreTexts wanted files (p ∷ ps) [] = ⊥
+
+-- What lines are joined to that are such reports, one after another, is the report of the plan that has all their roots,
+-- byte for byte. (A text in memory has fewer than 2^63 bytes.)
+abbrev pub JoinsAreReports : Type 0
+JoinsAreReports =
+    (wanted : Wanted) (files : List File) (ps : List Plan) (ts : List (List ℕ)) (plan : Plan) (text : List ℕ)
+    (joined : Report) → wanted.only_roots ≡ false → HavePlainLabels files → IsOrdered files → IsPlanOf files plan
+    → AreParts files plan ps → ((n : ℕ) → Contains plan.roots n → HasRoot ps n) → AreTexts wanted files ps ts
+    → IsFullText wanted files plan text → length (concat ts) < 2 ^ 63 → IsJoinedText (concat ts) joined
+    → report_text joined ++ 10 ∷ [] ≡ text

@@ -5,4 +5,4 @@
 
 mod law;
 
-pub use law::{reports_are_lines, reports_join};
+pub use law::{joins_are_reports, reports_are_lines, reports_join};

@@ -1,5 +1,5 @@
 -- Look-ups in dictionaries, as the store answers them.
-use Rattle.std.proofs.Common.{◌≡◌, ℕ, List, Option, Some, None, refl, ap, ◌∙◌}
+use Rattle.std.proofs.Common.{◌≡◌, ℕ, List, length, Option, Some, None, refl, ap, ◌∙◌}
 use Rattle.star_store.specs.declared.values.Value.{Value}
 use Rattle.star_store.specs.declared.values.Value.TheVariants as value
 use Rattle.star_store.specs.declared.values.Cell.{Cell}
@@ -23,6 +23,7 @@ held_entries (Some (cell.Func f)) = refl
 held_entries (Some (cell.Frame f)) = refl
 held_entries (Some (cell.Bound m v)) = refl
 held_entries (Some (cell.Struct fs)) = refl
+held_entries (Some (cell.Set es)) = refl
 held_entries None = refl
 
 entries_same : (w : Setting) (s : State) (v : Value) → entries_of (look s.store w.shelf v) ≡ entries_in (content w s v)
@@ -54,3 +55,11 @@ text_told w m s shelf text dict r e h k =
     ∙ ap (λ (t : State). keys.text_value (look t.store shelf) text (entries_of (look t.store shelf dict))) e
     ∙ ap (λ (sh : Shelf). keys.text_value (look s.store sh) text (entries_of (look s.store sh dict))) h
     ∙ ap (keys.text_value (seen w s) text) (entries_same w s dict)
+
+-- and how many entries there are
+pub count_told : (w : Setting) (m s : State) (shelf : Shelf) (dict : Value) (r : ℕ) → m ≡ s → shelf ≡ w.shelf → r ≡ length (entries_of (look m.store shelf dict)) → r ≡ length (entries_in (content w s dict))
+count_told w m s shelf dict r e h k =
+    k
+    ∙ ap (λ (t : State). length (entries_of (look t.store shelf dict))) e
+    ∙ ap (λ (sh : Shelf). length (entries_of (look s.store sh dict))) h
+    ∙ ap length (entries_same w s dict)

@@ -40,6 +40,10 @@ pub is_dict : (c : Content) → kind_of c ≡ kind.Dict → c ≡ Held (cell.Dic
 is_dict (Held (cell.Dict es)) h = refl
 is_dict _ h = cc
 
+pub is_set : (c : Content) → kind_of c ≡ kind.Set → c ≡ Held (cell.Set (entries_in c))
+is_set (Held (cell.Set es)) h = refl
+is_set _ h = cc
+
 pub is_range : (c : Content) (r : Range) → kind_of c ≡ kind.Range r → c ≡ Held (cell.Range r)
 is_range (Held (cell.Range q)) r h = let e : q ≡ r = cc in cc
 is_range _ r h = cc

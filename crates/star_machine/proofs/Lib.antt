@@ -2,6 +2,7 @@ pub mod Cells
 pub mod Dicts
 pub mod Each
 pub mod Gathering
+pub mod Kept
 pub mod KindCases
 pub mod PairCases
 pub mod Parts

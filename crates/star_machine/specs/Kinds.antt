@@ -18,6 +18,7 @@ kind_of (Held (cell.Range r)) = kind.Range r
 kind_of (Held (cell.Tuple xs)) = kind.Tuple
 kind_of (Held (cell.List xs)) = kind.List
 kind_of (Held (cell.Dict es)) = kind.Dict
+kind_of (Held (cell.Set es)) = kind.Set
 kind_of (Held (cell.Func f)) = kind.Function
 kind_of (Held (cell.Frame f)) = kind.Frame
 kind_of (Held (cell.Bound m v)) = kind.Method m v

@@ -36,6 +36,7 @@ pub enum Kind {
     Tuple,
     List,
     Dict,
+    Set,
     Function,
     Frame,
     Method(Method, Value),
@@ -68,7 +69,7 @@ impl<'a> Content<'a> {
         }
     }
 
-    /// How many items an iterable has: a list, a tuple, a dictionary (its keys) or a range.
+    /// How many items an iterable has: a list, a tuple, a dictionary (its keys), a set or a range.
     pub fn count(self) -> Option<usize>
         ensures { result ≡ count_in (shown self.entry) }
     {
@@ -76,6 +77,7 @@ impl<'a> Content<'a> {
             Content::Held(Cell::Tuple(items)) => Some(items.len()),
             Content::Held(Cell::List(items)) => Some(items.len()),
             Content::Held(Cell::Dict(entries)) => Some(entries.len()),
+            Content::Held(Cell::Set(elements)) => Some(elements.len()),
             Content::Held(Cell::Range(range)) => Some(range.len() as usize),
             _ => None,
         }
@@ -104,6 +106,10 @@ pub(crate) fn item_of_cell(cell: &Cell, at: usize) -> Option<Value>
             None => None,
         },
         Cell::Range(range) => range_item(*range, at),
+        Cell::Set(elements) => match elements.get(at) {
+            Some((element, _none)) => Some(element),
+            None => None,
+        },
         _ => None,
     }
 }
@@ -117,6 +123,7 @@ fn kind_of_cell(cell: &Cell) -> Kind
         Cell::Tuple(_) => Kind::Tuple,
         Cell::List(_) => Kind::List,
         Cell::Dict(_) => Kind::Dict,
+        Cell::Set(_) => Kind::Set,
         Cell::Func(_) => Kind::Function,
         Cell::Frame(_) => Kind::Frame,
         Cell::Bound(method, receiver) => Kind::Method(*method, *receiver),

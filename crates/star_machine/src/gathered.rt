@@ -1,6 +1,6 @@
 //! `DictBuilder`: the entries of a dictionary that is being made, with an index from 16 entries on.
 //!
-//! It serves `dict(..)`, `|` and a display. If contents are not at hand, the entries are walked.
+//! It serves `dict(..)`, `|`, a display, and sets. If contents are not at hand, the entries are walked.
 
 ghost use Rattle.std.specs.Prelude.{◌≡◌, ◌++◌, ◌∷◌, [], None, Some, map, is_some, not, true, if◌then◌else◌, IfOk, IfSome, OnErr, OnOk};
 ghost use Rattle.std.specs.Bool.{OnTrue};
@@ -8,7 +8,7 @@ ghost use Rattle.star_store.specs.Content.{content as content_of};
 ghost use Rattle.star_store.specs.Index.{place_by};
 ghost use Rattle.star_store.specs.Key.{key_levels};
 ghost use Rattle.star_store.specs.Store.{Store, look};
-ghost use Rattle.star_meaning.specs.Operators.{with_entry};
+ghost use Rattle.star_meaning.specs.Entries.{with_entry};
 ghost use Rattle.star_meaning.specs.Program.{Setting as GivenSetting};
 ghost use Rattle.star_meaning.specs.Values.{place_in};
 ghost use Rattle.star_machine.specs.DictBuilder.{IsGathered, contents_of};
@@ -175,6 +175,15 @@ impl DictBuilder {
         }
         self.push(machine, setting, entry, content)?;
         Ok(true)
+    }
+
+    /// Whether there is an entry with a key.
+    pub fn has(&self, machine: &Machine, setting: &Setting, key: Value) -> bool
+        requires { IsGathered setting.now machine.now.store self.now }
+        ensures { result ≡ is_some (place_in setting.now machine.now key self.now.entries) }
+    {
+        let content = self.content(machine, setting, key);
+        self.place(machine, setting, key, &content).is_some()
     }
 
     /// The content of a key, if contents are at hand.

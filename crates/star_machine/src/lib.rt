@@ -6,6 +6,7 @@
 //! - `Content` is the heap object of a value, borrowed; `Kind` is copied, to match on.
 //! - `EvalError` is why a run stops: a fault of the language with its line, or want of memory.
 //! - `DictBuilder` collects the entries of a new dictionary, `Pairs` has those that `dict` and `update` take.
+//! - `sets` merges a set with others, for the methods and the operators of sets.
 //! - `Call` is a call of a built-in function or of a method: the setting, the levels, the line and the arguments.
 //!
 //! Begin at `machine.rt`: payments, new cells, reading, iterating, equality, order, texts, writing. `unpack` unpacks
@@ -28,6 +29,7 @@ mod left;
 pub mod machine;
 pub mod pairs;
 mod search;
+pub mod sets;
 pub mod setting;
 pub mod slices;
 pub mod subscript;

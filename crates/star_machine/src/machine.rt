@@ -18,7 +18,7 @@ ghost use Rattle.star_machine.specs.Shown.{shown};
 ghost use Rattle.star_machine.specs.Kinds.{bytes_of, kind_of, row_in, size_of};
 ghost use Rattle.star_machine.specs.Search.{found_place};
 ghost use Rattle.star_meaning.specs.Subscript.{entries_in};
-ghost use Rattle.star_meaning.specs.Values.{int_of, place_in, value_in, text_of, text_value, change, check_key, compare, content, count_of, encoded, equal, guard, is_true, item_in, iterate, leave, new_dict, new_int, new_list, new_text, bare, new_tuple, repr, str, take_all, take_item, take_items, want_bool, want_int, want_text};
+ghost use Rattle.star_meaning.specs.Values.{int_of, place_in, value_in, text_of, text_value, change, check_key, compare, content, count_of, encoded, equal, guard, is_true, item_in, iterate, leave, new_dict, new_int, new_list, new_set, new_text, bare, new_tuple, repr, str, take_all, take_item, take_items, want_bool, want_int, want_text};
 
 use crate::content::{Content, Kind, item_of_cell};
 use crate::fault::{EvalError, fault_at, refused};
@@ -319,6 +319,14 @@ impl Machine {
     {
         let cost = 1 + entries.len() as u128;
         self.build(line, cost, Cell::Dict(entries))
+    }
+
+    /// A new set: 1 and its elements are paid.
+    pub fn new_set(&mut self, line: usize, elements: Entries) -> Result<Value, EvalError>
+        ensures { Refines (new_set line elements self.old) result self.new }
+    {
+        let cost = 1 + elements.len() as u128;
+        self.build(line, cost, Cell::Set(elements))
     }
 
     /// The number of items of an iterable. `BadType` for another value.
@@ -820,6 +828,13 @@ impl Machine {
         ensures { result ≡ place_in setting.now self.now key (entries_in (content setting.now self.now dict)) }
     {
         self.arena.key_place(setting.homes(), dict, key)
+    }
+
+    /// How many entries a dictionary has, or elements a set; 0 for another value.
+    pub fn entry_count(&self, setting: &Setting, dict: Value) -> usize
+        ensures { result ≡ length (entries_in (content setting.now self.now dict)) }
+    {
+        self.arena.dict_len(setting.homes(), dict)
     }
 
     /// The value that a dictionary has for a key.

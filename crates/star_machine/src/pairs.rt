@@ -86,7 +86,7 @@ fn taken_entries(
     Ok(taken)
 }
 
-/// A copy of the entries of a dictionary; no entries for another value.
+/// A copy of the entries of a dictionary or a set; no entries for another value.
 pub fn entries_of(
     machine: &Machine,
     setting: &Setting,
@@ -96,6 +96,7 @@ pub fn entries_of(
 {
     match machine.content(setting, dict) {
         Content::Held(Cell::Dict(entries)) => Vec::from_slice(machine.alloc(), entries.as_slice()),
+        Content::Held(Cell::Set(entries)) => Vec::from_slice(machine.alloc(), entries.as_slice()),
         _ => Ok(Vec::new(machine.alloc())),
     }
 }

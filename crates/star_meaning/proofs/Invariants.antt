@@ -35,6 +35,7 @@ pub record Invariant (w : Setting) : Type 1 where
   pub makes_range : (r : Range) → Kept (make (cell.Range r))
   pub makes_bound : (m : Method) (v : Value) → Kept (make (cell.Bound m v))
   pub makes_struct : (fs : List (List ℕ × Value)) → Kept (make (cell.Struct fs))
+  pub makes_set : (es : List (Value × Value)) → Kept (make (cell.Set es))
   pub changes : (line : ℕ) (v : Value) (c : Change) → Kept (change w line v c)
   pub adds_line : (bytes : List ℕ) → Kept (add_line bytes)
   pub iterates : {A : Type 0} (line : ℕ) (v : Value) (m : ℕ → Action A) → ((n : ℕ) → Kept (m n)) → Kept (iterate w line v >>= λ n. m n >>= λ x. leave v)
@@ -87,6 +88,9 @@ respects_make_bound {inv = inv} m v = record { kept = inv.makes_bound m v }
 
 pub respects_make_struct : {w : Setting} {inv : Invariant w} (fs : List (List ℕ × Value)) → Respects inv (make (cell.Struct fs))
 respects_make_struct {inv = inv} fs = record { kept = inv.makes_struct fs }
+
+pub respects_make_set : {w : Setting} {inv : Invariant w} (es : List (Value × Value)) → Respects inv (make (cell.Set es))
+respects_make_set {inv = inv} es = record { kept = inv.makes_set es }
 
 pub respects_make_empty : {w : Setting} {inv : Invariant w} → Respects inv (make (cell.Dict []))
 respects_make_empty {inv = inv} = record { kept = inv.makes_empty }
@@ -154,4 +158,4 @@ pub respects_repeat : {w : Setting} {inv : Invariant w} (f : ℕ → Action (Uni
 respects_repeat f zero j k = respects_give {A = Unit {0}} tt
 respects_repeat f (suc n) j k = respects_then _ _ (k j) (λ _. respects_repeat f n (j + 1) k)
 
-pub ruleset respects = (refl, spends-same, spends-order, spends-check, spends-text, spends-json, spends-bare, respects_while, respects_looping, respects_then, respects_give, respects_fail, respects_if, respects_found, respects_pay, respects_seeing, respects_check, respects_make_text, respects_make_tuple, respects_make_list, respects_make_range, respects_make_bound, respects_make_struct, respects_make_empty, respects_build, respects_each, respects_all_of, respects_collect, respects_until, respects_agreed, respects_visiting, respects_change, respects_add_line)
+pub ruleset respects = (refl, spends-same, spends-order, spends-check, spends-text, spends-json, spends-bare, respects_while, respects_looping, respects_then, respects_give, respects_fail, respects_if, respects_found, respects_pay, respects_seeing, respects_check, respects_make_text, respects_make_tuple, respects_make_list, respects_make_range, respects_make_bound, respects_make_struct, respects_make_set, respects_make_empty, respects_build, respects_each, respects_all_of, respects_collect, respects_until, respects_agreed, respects_visiting, respects_change, respects_add_line)

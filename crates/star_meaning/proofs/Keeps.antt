@@ -101,6 +101,9 @@ keeps_make_bound m v = record { grows = growth.keeps_make (cell.Bound m v); stay
 pub keeps_make_struct : {q : Bool} (fs : List (List ℕ × Value)) → Keeps q (make (cell.Struct fs))
 keeps_make_struct fs = record { grows = growth.keeps_make (cell.Struct fs); stays = stays.keeps_make (cell.Struct fs); extends = extends.extends_make (cell.Struct fs); follows = λ h. quiet.keeps_make_struct fs }
 
+pub keeps_make_set : {q : Bool} (es : List (Value × Value)) → Keeps q (make (cell.Set es))
+keeps_make_set es = record { grows = growth.keeps_make (cell.Set es); stays = stays.keeps_make (cell.Set es); extends = extends.extends_make (cell.Set es); follows = λ h. quiet.keeps_make_set es }
+
 pub keeps_make_frame : {q : Bool} (x : Frame) → Keeps q (make (cell.Frame x))
 keeps_make_frame x = record { grows = growth.keeps_make (cell.Frame x); stays = stays.keeps_make (cell.Frame x); extends = extends.extends_make (cell.Frame x); follows = λ h. quiet.keeps_make_frame x }
 
@@ -124,6 +127,9 @@ keeps_build_bound line cost m v = record { grows = growth.keeps_build line cost 
 
 pub keeps_build_struct : {q : Bool} (line cost : ℕ) (fs : List (List ℕ × Value)) → Keeps q (build line cost (cell.Struct fs))
 keeps_build_struct line cost fs = record { grows = growth.keeps_build line cost (cell.Struct fs); stays = stays.keeps_build line cost (cell.Struct fs); extends = extends.extends_build line cost (cell.Struct fs); follows = λ h. quiet.keeps_build_struct line cost fs }
+
+pub keeps_build_set : {q : Bool} (line cost : ℕ) (es : List (Value × Value)) → Keeps q (build line cost (cell.Set es))
+keeps_build_set line cost es = record { grows = growth.keeps_build line cost (cell.Set es); stays = stays.keeps_build line cost (cell.Set es); extends = extends.extends_build line cost (cell.Set es); follows = λ h. quiet.keeps_build_set line cost es }
 
 pub keeps_visiting : {q : Bool} {A : Type 0} (line : ℕ) (f : State → Spend A) → ((k : ℕ) (s : State) → f (with_more k s) ≡ f s) → ((s : State) → Spends (f s)) → Keeps q (visiting line f)
 keeps_visiting line f same k = record { grows = growth.keeps_visiting line f (λ s. (k s).lowers); stays = stays.keeps_visiting line f; extends = extends.extends_visiting line f same (λ s. (k s).reaches); follows = λ h. quiet.keeps_visiting line f }
@@ -181,6 +187,7 @@ kept w q = record {
   makes_range = keeps_make_range;
   makes_bound = keeps_make_bound;
   makes_struct = keeps_make_struct;
+  makes_set = keeps_make_set;
   changes = keeps_change w;
   adds_line = keeps_add_line;
   iterates = keeps_while w;
@@ -260,4 +267,4 @@ keeps_parts m k = k.parts
 pub keeps_call : (m : Semantics) → AllKeep m → (p : Site) (f : Function) (d : Definition) (shares : List (Name × BoundArgument)) → Keeps false (m.call p f d shares)
 keeps_call m k = k.call
 
-pub ruleset keeps = (refl, spends-same, spends-order, spends-check, spends-text, spends-json, spends-bare, keeps_while, keeps_looping, keeps_active, keeps_then, keeps_give, keeps_fail, keeps_if, keeps_found, keeps_pay, keeps_seeing, keeps_check, keeps_make_text, keeps_make_tuple, keeps_make_list, keeps_make_dict, keeps_make_range, keeps_make_bound, keeps_make_struct, keeps_make_frame, keeps_build_text, keeps_build_tuple, keeps_build_list, keeps_build_dict, keeps_build_range, keeps_build_bound, keeps_build_struct, keeps_each, keeps_all_of, keeps_collect, keeps_until, keeps_agreed, keeps_visiting, keeps_bound, keeps_change, keeps_add_line, keeps_make, keeps_build, keeps_block, keeps_turns, keeps_repeat, keeps_read, keeps_bind, keeps_frame, keeps_expr, keeps_stmt, keeps_assign, keeps_parts, keeps_call)
+pub ruleset keeps = (refl, spends-same, spends-order, spends-check, spends-text, spends-json, spends-bare, keeps_while, keeps_looping, keeps_active, keeps_then, keeps_give, keeps_fail, keeps_if, keeps_found, keeps_pay, keeps_seeing, keeps_check, keeps_make_text, keeps_make_tuple, keeps_make_list, keeps_make_dict, keeps_make_range, keeps_make_bound, keeps_make_struct, keeps_make_set, keeps_make_frame, keeps_build_text, keeps_build_tuple, keeps_build_list, keeps_build_dict, keeps_build_range, keeps_build_bound, keeps_build_struct, keeps_build_set, keeps_each, keeps_all_of, keeps_collect, keeps_until, keeps_agreed, keeps_visiting, keeps_bound, keeps_change, keeps_add_line, keeps_make, keeps_build, keeps_block, keeps_turns, keeps_repeat, keeps_read, keeps_bind, keeps_frame, keeps_expr, keeps_stmt, keeps_assign, keeps_parts, keeps_call)

@@ -13,6 +13,7 @@ use Rattle.star_meaning.specs.BuiltIns.{absolute, call_abs, is_decided, some_ite
 use Rattle.star_meaning.specs.Orders.{by_itself}
 use Rattle.star_dialect.specs.declared.Dialect.{Dialect}
 use Rattle.star_dialect.specs.declared.Dialect.TheVariants as dialect
+use Rattle.star_meaning.proofs.KeepsSets.{respects-call_set}
 use Rattle.star_meaning.proofs.KeepsOrders.{respects-sort_by, respects-want_reverse}
 use Rattle.star_meaning.proofs.Invariants.{Invariant, Respects, respects}
 use Rattle.star_meaning.proofs.Keeps.{keeps, kept_by, Keeps}
@@ -201,6 +202,7 @@ keeps-call_built_in w levels line built_in.Hasattr g = search (keeps, kept_by w,
 keeps-call_built_in w levels line built_in.Hash g = search (keeps, kept_by w, respects-call_hash) depth 14
 keeps-call_built_in w levels line built_in.Json g = search keeps depth 14
 keeps-call_built_in w levels line built_in.Ord g = search (keeps, kept_by w, respects-call_ord) depth 14
+keeps-call_built_in w levels line built_in.Set g = search (keeps, kept_by w, respects-call_set) depth 14
 keeps-call_built_in w levels line built_in.Struct g = search (keeps, kept_by w, respects-call_struct) depth 14
 keeps-call_built_in w levels line built_in.JsonDecode g = search (keeps, keeps-call_decode) depth 14
 keeps-call_built_in w levels line built_in.JsonEncode g = search (keeps, kept_by w, respects-call_encode) depth 14

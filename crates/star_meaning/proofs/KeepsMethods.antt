@@ -10,6 +10,7 @@ use Rattle.star_meaning.proofs.Invariants.{Invariant, Respects, respects}
 use Rattle.star_meaning.proofs.KeepsValues.{respects-want_text}
 use Rattle.star_meaning.proofs.KeepsListMethods.{respects-call_append, respects-call_clear, respects-call_extend, respects-call_index, respects-call_insert, respects-call_pop, respects-call_remove}
 use Rattle.star_meaning.proofs.KeepsDictMethods.{respects-call_get, respects-call_items, respects-call_keys, respects-call_values, respects-call_dict_pop, respects-call_popitem, respects-call_setdefault, respects-call_update}
+use Rattle.star_meaning.proofs.KeepsSets.{respects-call_on_set}
 use Rattle.star_meaning.proofs.KeepsTableMethods.{respects-call_in_table, respects-call_wider}
 use Rattle.star_meaning.proofs.KeepsTextMethods.{respects-call_edge, respects-call_find, respects-call_join, respects-call_split, respects-call_strip, respects-call_case, respects-call_replace, respects-call_format}
 
@@ -47,4 +48,5 @@ respects-call_method w levels line method.DictPopitem x g = search (respects, re
 respects-call_method w levels line method.DictSetdefault x g = search (respects, respects-call_setdefault) depth 14
 respects-call_method w levels line method.DictUpdate x g = search (respects, respects-call_update) depth 14
 respects-call_method w levels line method.DictValues x g = search (respects, respects-call_values) depth 14
+respects-call_method w levels line (method.OfSet m) x g = search (respects, respects-call_on_set) depth 14
 respects-call_method w levels line m x g = search (respects, respects-want_text, respects-on_text) depth 14

@@ -17,6 +17,7 @@ use Rattle.star_meaning.proofs.Invariants.{Invariant, Respects, respects}
 use Rattle.star_meaning.proofs.Keeps.{keeps, kept_by, Keeps}
 use Rattle.star_meaning.proofs.KeepsValues.{respects-with_content, respects-want_text, respects-new_int, respects-new_text, respects-new_tuple, respects-new_list, keeps-new_dict, respects-is_true, respects-equal, respects-compare, respects-check_key}
 use Rattle.star_meaning.proofs.KeepsPercent.{respects-percent}
+use Rattle.star_meaning.proofs.KeepsSets.{respects-merge_new}
 
 pub respects-add : {w : Setting} {inv : Invariant w} → (line : ℕ) (a1 : Content) (a2 : Content) → Respects inv (add line a1 a2)
 respects-add line (Number x) (Number y) = search (respects, respects-new_int) depth 14
@@ -88,6 +89,7 @@ pub respects-has : (w : Setting) {inv : Invariant w} (levels : ℕ) (line : ℕ)
 respects-has w levels line (Held (cell.List ys)) x = search (respects, respects-list_contains) depth 14
 respects-has w levels line (Held (cell.Tuple ys)) x = search (respects, respects-list_contains) depth 14
 respects-has w levels line (Held (cell.Dict es)) x = search (respects, respects-check_key) depth 14
+respects-has w levels line (Held (cell.Set es)) x = search (respects, respects-check_key) depth 14
 respects-has w levels line (Held (cell.Range r)) x = search (respects, respects-with_content) depth 14
 respects-has w levels line (Held (cell.Text t)) x = search (respects, respects-want_text) depth 14
 respects-has w levels line _ x = search respects depth 14
@@ -120,6 +122,10 @@ keeps-on_others w levels line binary.Add c d y = search (keeps, kept_by w, respe
 keeps-on_others w levels line binary.Multiply c d y = search (keeps, kept_by w, respects-multiply) depth 14
 keeps-on_others w levels line binary.Modulo (Held (cell.Text t)) d y = search (keeps, kept_by w, respects-percent) depth 14
 keeps-on_others w levels line binary.BitOr (Held (cell.Dict es)) (Held (cell.Dict fs)) y = search (keeps, keeps-union) depth 14
+keeps-on_others w levels line binary.BitOr (Held (cell.Set es)) (Held (cell.Set fs)) y = search (keeps, kept_by w, respects-merge_new) depth 14
+keeps-on_others w levels line binary.BitAnd (Held (cell.Set es)) (Held (cell.Set fs)) y = search (keeps, kept_by w, respects-merge_new) depth 14
+keeps-on_others w levels line binary.Subtract (Held (cell.Set es)) (Held (cell.Set fs)) y = search (keeps, kept_by w, respects-merge_new) depth 14
+keeps-on_others w levels line binary.BitXor (Held (cell.Set es)) (Held (cell.Set fs)) y = search (keeps, kept_by w, respects-merge_new) depth 14
 keeps-on_others w levels line _ c d y = search keeps depth 14
 
 pub keeps-on_contents : {q : Bool} → (w : Setting) (levels : ℕ) (line : ℕ) (op : BinaryOperator) (a4 : Content) (a5 : Content) (v : Value) → Keeps q (on_contents w levels line op a4 a5 v)

@@ -4,7 +4,7 @@ use Rattle.star_store.specs.declared.layout.Layout.{Layout}
 use Rattle.star_meaning.specs.Program.{Setting}
 use Rattle.std.proofs.Common.{ℕ, List, Option, Some, None, ℤ, Bool}
 use Rattle.star_meaning.specs.Run.{Action}
-use Rattle.star_meaning.specs.Values.{with_content, want_int, want_bool, want_text, new_int, new_text, new_tuple, new_list, new_dict, count_of, take_item, take_items, take_all, is_true, equal, compare, check_key, repr, encoded, str_of, str, guard, Content}
+use Rattle.star_meaning.specs.Values.{with_content, want_int, want_bool, want_text, new_int, new_text, new_tuple, new_list, new_dict, new_set, count_of, take_item, take_items, take_all, is_true, equal, compare, check_key, repr, encoded, str_of, str, guard, Content}
 use Rattle.star_meaning.proofs.Invariants.{Invariant, Respects, respects}
 use Rattle.star_meaning.proofs.Keeps.{keeps, Keeps}
 
@@ -31,6 +31,9 @@ respects-new_tuple line xs = search respects depth 14
 
 pub respects-new_list : {w : Setting} {inv : Invariant w} → (line : ℕ) (xs : List Value) → Respects inv (new_list line xs)
 respects-new_list line xs = search respects depth 14
+
+pub respects-new_set : {w : Setting} {inv : Invariant w} → (line : ℕ) (es : List (Value × Value)) → Respects inv (new_set line es)
+respects-new_set line es = search respects depth 14
 
 pub respects-count_of : (w : Setting) {inv : Invariant w} (line : ℕ) (v : Value) → Respects inv (count_of w line v)
 unfolding count_of

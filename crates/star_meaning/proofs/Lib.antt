@@ -28,6 +28,7 @@ pub mod KeepsModule
 pub mod KeepsOperators
 pub mod KeepsPairs
 pub mod KeepsPercent
+pub mod KeepsSets
 pub mod KeepsStatements
 pub mod KeepsSubscript
 pub mod KeepsTableMethods

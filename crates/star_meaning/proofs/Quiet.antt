@@ -135,6 +135,9 @@ keeps_make_bound m v = keeps_make (cell.Bound m v) (λ f e. let g : cell.Bound m
 pub keeps_make_struct : (fs : List (List ℕ × Value)) → Keeps (make (cell.Struct fs))
 keeps_make_struct fs = keeps_make (cell.Struct fs) (λ f e. let g : cell.Struct fs ≡ cell.Func f → ⊥ = λ e. cc in g e)
 
+pub keeps_make_set : (es : List (Value × Value)) → Keeps (make (cell.Set es))
+keeps_make_set es = keeps_make (cell.Set es) (λ f e. let g : cell.Set es ≡ cell.Func f → ⊥ = λ e. cc in g e)
+
 pub keeps_make_frame : (x : Frame) → Keeps (make (cell.Frame x))
 keeps_make_frame x = keeps_make (cell.Frame x) (λ f e. let g : cell.Frame x ≡ cell.Func f → ⊥ = λ e. cc in g e)
 
@@ -162,6 +165,9 @@ keeps_build_bound line cost m v = built line cost (cell.Bound m v) (keeps_make_b
 
 pub keeps_build_struct : (line cost : ℕ) (fs : List (List ℕ × Value)) → Keeps (build line cost (cell.Struct fs))
 keeps_build_struct line cost fs = built line cost (cell.Struct fs) (keeps_make_struct fs)
+
+pub keeps_build_set : (line cost : ℕ) (es : List (Value × Value)) → Keeps (build line cost (cell.Set es))
+keeps_build_set line cost es = built line cost (cell.Set es) (keeps_make_set es)
 
 -- ---- loops
 
@@ -193,6 +199,7 @@ kind_frame c d f h e = subst (λ z. KeepsKind z d) e h
 kind_function : (c d : Cell) (f : Function) → KeepsKind c d → d ≡ cell.Func f → c ≡ cell.Func f
 kind_function (cell.List xs) d f h e = let k : cell.List h.0 ≡ cell.Func f = sym h.1 ∙ e in cc
 kind_function (cell.Dict xs) d f h e = let k : cell.Dict h.0 ≡ cell.Func f = sym h.1 ∙ e in cc
+kind_function (cell.Set xs) d f h e = let k : cell.Set h.0 ≡ cell.Func f = sym h.1 ∙ e in cc
 kind_function (cell.Frame xs) d f h e = let k : cell.Frame h.0 ≡ cell.Func f = sym h.1 ∙ e in cc
 kind_function c d f h e = sym h ∙ e
 

@@ -8,11 +8,11 @@ use Rattle.star_store.specs.declared.fault.StoreFault.{StoreFault}
 use Rattle.star_store.specs.Key.{check_each, check_cell, check_value, check}
 use Rattle.star_store.specs.Fields.{Fields}
 use Rattle.star_store.specs.declared.layout.Layout.{Layout}
-use Rattle.star_store.specs.Json.{put_place, put_items, put_array, put_named, put_member, put_members, put_object, put_dict, put_cell, put_value, json}
+use Rattle.star_store.specs.Json.{put_place, put_items, put_array, put_nth, put_elements, put_set, put_named, put_member, put_members, put_object, put_dict, put_cell, put_value, json}
 use Rattle.star_store.specs.Equal.{same_pair, same_place, same_items, same_fields, same_found, same_pairs, same_entry, same_entries, same_cells, same_values, same}
 use Rattle.std.specs.declared.cmp.Ordering.{Ordering}
 use Rattle.star_store.specs.Order.{order_places, order_pair, order_place, order_items, order_cells, order_values, order}
-use Rattle.star_store.specs.Text.{say, say_parts, then_say, all_said, say_item, say_place, say_items, say_pair, say_entry, say_entries, say_named, say_field, say_fields, say_struct, say_tuple, say_new_list, say_new_dict, say_list, say_dict, say_cell, say_value, text}
+use Rattle.star_store.specs.Text.{say, say_parts, then_say, all_said, say_element, say_nth, say_elements, say_set, say_item, say_place, say_items, say_pair, say_entry, say_entries, say_named, say_field, say_fields, say_struct, say_tuple, say_new_list, say_new_dict, say_list, say_dict, say_cell, say_value, text}
 use Rattle.std.proofs.Common.{ℕ, zero, suc, ◌+◌, List, [], ◌∷◌, Option, Some, None, Bool, true, false, if◌then◌else◌}
 use Rattle.star_store.specs.Spend.{Spend, Enough, Lacks, answer, spend_then, visited, all_places}
 use Rattle.star_meaning.specs.Values.{bare}
@@ -107,6 +107,7 @@ spends-same_cells look f one (Some (cell.Range r)) (Some (cell.Range s)) k0 = se
 spends-same_cells look f one (Some (cell.Tuple xs)) (Some (cell.Tuple ys)) k0 = search (spends, spends-same_items) depth 14
 spends-same_cells look f one (Some (cell.List xs)) (Some (cell.List ys)) k0 = search (spends, spends-same_items) depth 14
 spends-same_cells look f one (Some (cell.Dict xs)) (Some (cell.Dict ys)) k0 = search (spends, spends-same_entries) depth 14
+spends-same_cells look f one (Some (cell.Set xs)) (Some (cell.Set ys)) k0 = search (spends, spends-same_entries) depth 14
 spends-same_cells look f one (Some (cell.Func g)) (Some (cell.Func h)) k0 = search spends depth 14
 spends-same_cells look f one (Some (cell.Bound m x)) (Some (cell.Bound n y)) k0 = search spends depth 14
 spends-same_cells look f one (Some (cell.Struct xs)) (Some (cell.Struct ys)) k0 = search (spends, spends-same_fields) depth 14
@@ -189,6 +190,19 @@ spends-say_entry f es i y3 k0 = search (spends, spends-say, spends-then_say, spe
 pub spends-say_entries : (f : (Value → (List ℕ → Spend (List ℕ)))) (es : List (Value × Value)) (a2 : List ℕ) → ((x0 : Value) (x1 : List ℕ) → Spends (f x0 x1)) → Spends (say_entries f es a2)
 spends-say_entries f es y2 k0 = search (spends, spends-all_said, spends-say_entry) depth 14
 
+pub spends-say_element : (f : (Value → (List ℕ → Spend (List ℕ)))) (a1 : Option (Value × Value)) (a2 : List ℕ) → ((x0 : Value) (x1 : List ℕ) → Spends (f x0 x1)) → Spends (say_element f a1 a2)
+spends-say_element f (Some e) y2 k0 = search spends depth 14
+spends-say_element f None y2 k0 = search (spends, spends-say) depth 14
+
+pub spends-say_nth : (f : (Value → (List ℕ → Spend (List ℕ)))) (es : List (Value × Value)) (i : ℕ) (a3 : List ℕ) → ((x0 : Value) (x1 : List ℕ) → Spends (f x0 x1)) → Spends (say_nth f es i a3)
+spends-say_nth f es i y3 k0 = search (spends, spends-say, spends-then_say, spends-say_element) depth 14
+
+pub spends-say_elements : (f : (Value → (List ℕ → Spend (List ℕ)))) (es : List (Value × Value)) (a2 : List ℕ) → ((x0 : Value) (x1 : List ℕ) → Spends (f x0 x1)) → Spends (say_elements f es a2)
+spends-say_elements f es y2 k0 = search (spends, spends-all_said, spends-say_nth) depth 14
+
+pub spends-say_set : (f : (Value → (List ℕ → Spend (List ℕ)))) (es : List (Value × Value)) (a2 : List ℕ) → ((x0 : Value) (x1 : List ℕ) → Spends (f x0 x1)) → Spends (say_set f es a2)
+spends-say_set f es y2 k0 = search (spends, spends-say, spends-then_say, spends-say_elements) depth 14
+
 pub spends-say_tuple : (f : (Value → (List ℕ → Spend (List ℕ)))) (xs : List Value) (a2 : List ℕ) → ((x0 : Value) (x1 : List ℕ) → Spends (f x0 x1)) → Spends (say_tuple f xs a2)
 spends-say_tuple f xs y2 k0 = search (spends, spends-say, spends-then_say, spends-say_items) depth 14
 
@@ -227,6 +241,7 @@ spends-say_cell f path v (Some (cell.Func g)) y4 k0 = search (spends, spends-say
 spends-say_cell f path v (Some (cell.Frame g)) y4 k0 = search (spends, spends-say) depth 14
 spends-say_cell f path v (Some (cell.Bound m x)) y4 k0 = search (spends, spends-say_parts) depth 14
 spends-say_cell f path v (Some (cell.Struct fs)) y4 k0 = search (spends, spends-say_struct) depth 14
+spends-say_cell f path v (Some (cell.Set es)) y4 k0 = search (spends, spends-say_set) depth 14
 spends-say_cell f path v None y4 k0 = search (spends, spends-say) depth 14
 
 pub spends-say_value : (look : (Value → Option Cell)) (f : (List Value → Value → (List ℕ → Spend (List ℕ)))) (path : List Value) (a3 : Value) (a4 : List ℕ) → ((x0 : List Value) (x1 : Value) (x2 : List ℕ) → Spends (f x0 x1 x2)) → Spends (say_value look f path a3 a4)
@@ -249,6 +264,15 @@ spends-put_items l n f xs y2 k0 = search (spends, spends-all_said, spends-put_pl
 
 pub spends-put_array : (l : Layout) (n : ℕ) (f : (Value → (List ℕ → Spend (List ℕ)))) (xs : List Value) (a2 : List ℕ) → ((x0 : Value) (x1 : List ℕ) → Spends (f x0 x1)) → Spends (put_array l n f xs a2)
 spends-put_array l n f xs y2 k0 = search (spends, spends-say, spends-then_say, spends-put_items) depth 14
+
+pub spends-put_nth : (l : Layout) (n : ℕ) (f : (Value → (List ℕ → Spend (List ℕ)))) (es : List (Value × Value)) (i : ℕ) (a3 : List ℕ) → ((x0 : Value) (x1 : List ℕ) → Spends (f x0 x1)) → Spends (put_nth l n f es i a3)
+spends-put_nth l n f es i y3 k0 = search (spends, spends-say, spends-then_say, spends-say_element) depth 14
+
+pub spends-put_elements : (l : Layout) (n : ℕ) (f : (Value → (List ℕ → Spend (List ℕ)))) (es : List (Value × Value)) (a2 : List ℕ) → ((x0 : Value) (x1 : List ℕ) → Spends (f x0 x1)) → Spends (put_elements l n f es a2)
+spends-put_elements l n f es y2 k0 = search (spends, spends-all_said, spends-put_nth) depth 14
+
+pub spends-put_set : (l : Layout) (n : ℕ) (f : (Value → (List ℕ → Spend (List ℕ)))) (es : List (Value × Value)) (a2 : List ℕ) → ((x0 : Value) (x1 : List ℕ) → Spends (f x0 x1)) → Spends (put_set l n f es a2)
+spends-put_set l n f es y2 k0 = search (spends, spends-say, spends-then_say, spends-put_elements) depth 14
 
 pub spends-put_named : (l : Layout) (f : (Value → (List ℕ → Spend (List ℕ)))) (a1 : Option (List ℕ × Value)) (a2 : List ℕ) → ((x0 : Value) (x1 : List ℕ) → Spends (f x0 x1)) → Spends (put_named l f a1 a2)
 spends-put_named l f (Some e) y2 k0 = search (spends, spends-say, spends-then_say) depth 14
@@ -273,6 +297,7 @@ spends-put_cell look l n f (Some (cell.Tuple xs)) y4 k0 = search (spends, spends
 spends-put_cell look l n f (Some (cell.List xs)) y4 k0 = search (spends, spends-put_array) depth 14
 spends-put_cell look l n f (Some (cell.Dict es)) y4 k0 = search (spends, spends-put_dict) depth 14
 spends-put_cell look l n f (Some (cell.Struct fs)) y4 k0 = search (spends, spends-put_object) depth 14
+spends-put_cell look l n f (Some (cell.Set es)) y4 k0 = search (spends, spends-put_set) depth 14
 spends-put_cell look l n f _ y4 k0 = search spends depth 14
 
 pub spends-put_value : (look : (Value → Option Cell)) (l : Layout) (n : ℕ) (f : (ℕ → Value → (List ℕ → Spend (List ℕ)))) (a3 : Value) (a4 : List ℕ) → ((x0 : ℕ) (x1 : Value) (x2 : List ℕ) → Spends (f x0 x1 x2)) → Spends (put_value look l n f a3 a4)

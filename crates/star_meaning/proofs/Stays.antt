@@ -27,12 +27,14 @@ use Rattle.star_meaning.proofs.Through.{Through, through_then}
 kind_same : (c : Cell) → KeepsKind c c
 kind_same (cell.List xs) = (xs, refl)
 kind_same (cell.Dict es) = (es, refl)
+kind_same (cell.Set es) = (es, refl)
 kind_same (cell.Frame f) = (f, refl, record { file = refl; block = refl; parent = refl; slots = refl })
 kind_same _ = refl
 
 kind_on : (a b c : Cell) → KeepsKind a b → KeepsKind b c → KeepsKind a c
 kind_on (cell.List xs) b c h k = subst (λ z. KeepsKind z c) h.1 k
 kind_on (cell.Dict es) b c h k = subst (λ z. KeepsKind z c) h.1 k
+kind_on (cell.Set es) b c h k = subst (λ z. KeepsKind z c) h.1 k
 kind_on (cell.Frame f) b c h k =
     let m : (g : Frame) × (c ≡ cell.Frame g) × KeepsFrame h.0 g = subst (λ z. KeepsKind z c) h.1 k in
     (m.0, m.1, record { file = m.2.file ∙ h.2.file; block = m.2.block ∙ h.2.block; parent = m.2.parent ∙ h.2.parent; slots = m.2.slots ∙ h.2.slots })
@@ -41,6 +43,7 @@ kind_on a b c h k = subst (λ z. KeepsKind z c) h k
 pub kind_container : (a b : Cell) → KeepsKind a b → is_container b ≡ is_container a
 kind_container (cell.List xs) b h = ap is_container h.1
 kind_container (cell.Dict es) b h = ap is_container h.1
+kind_container (cell.Set es) b h = ap is_container h.1
 kind_container (cell.Frame f) b h = ap is_container h.1
 kind_container a b h = ap is_container h
 
@@ -243,9 +246,14 @@ dict_kind : (o : Result (Option Value × List (Value × Value)) StoreFault) (r :
 dict_kind (Ok q) r h = (q.1, let e : (q.0, cell.Dict q.1) ≡ r = cc in ap (λ (z : Option Value × Cell). z.1) (sym e))
 dict_kind (Err f) r h = cc
 
+set_kind : (o : Result (Option Value × List (Value × Value)) StoreFault) (r : Option Value × Cell) → in_cell cell.Set o ≡ Ok r → (es : List (Value × Value)) × (r.1 ≡ cell.Set es)
+set_kind (Ok q) r h = (q.1, let e : (q.0, cell.Set q.1) ≡ r = cc in ap (λ (z : Option Value × Cell). z.1) (sym e))
+set_kind (Err f) r h = cc
+
 change_kind : (c : Change) (place : Option ℕ) (d : Cell) (r : Option Value × Cell) → change_cell c place (Some d) ≡ Ok r → KeepsKind d r.1
 change_kind c place (cell.List xs) r h = list_kind (change_items c xs) r h
 change_kind c place (cell.Dict es) r h = dict_kind (change_entries c place es) r h
+change_kind c place (cell.Set es) r h = set_kind (change_entries c place es) r h
 change_kind c place _ r h = cc
 
 none_open : (b1 b2 b3 b4 : Bool) (u : Unit {0}) → (if b1 then (if b2 then (if b3 then (if b4 then Ok tt else Err refused.BadType) else Err refused.Iterating) else Err refused.Frozen) else Err refused.BadType) ≡ Ok u → b3 ≡ true

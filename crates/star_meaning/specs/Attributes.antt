@@ -13,6 +13,7 @@ use Rattle.star_store.specs.declared.names.BuiltIn.{BuiltIn}
 use Rattle.star_store.specs.declared.names.BuiltIn.TheVariants as built_in
 use Rattle.star_store.specs.declared.names.Method.{Method}
 use Rattle.star_store.specs.declared.names.Method.TheVariants as method
+use Rattle.star_store.specs.declared.names.SetMethod.TheVariants as set_method
 use Rattle.star_store.specs.Fields.{Fields, names_of}
 use Rattle.star_store.specs.Names.{method_name, receiver_type}
 use Rattle.star_store.specs.Store.{global_of}
@@ -27,7 +28,7 @@ use Rattle.star_meaning.specs.Values.{Content, BuiltInFunction, Held, with_conte
 use Rattle.star_meaning.specs.declared.given.Arguments.{Arguments}
 use Rattle.star_meaning.specs.Arguments.{positional, only_one, two, two_or_three}
 
--- the methods of the core
+-- the methods of lists, dictionaries, strings and sets, of which the core has none
 abbrev pub methods : List Method
 methods =
     method.ListAppend ∷ method.ListClear ∷ method.ListExtend ∷ method.ListIndex ∷ method.ListInsert ∷ method.ListPop
@@ -35,9 +36,16 @@ methods =
     ∷ method.DictPopitem ∷ method.DictSetdefault ∷ method.DictUpdate ∷ method.DictValues ∷ method.StringEndswith
     ∷ method.StringFind ∷ method.StringFormat ∷ method.StringJoin ∷ method.StringLower ∷ method.StringLstrip
     ∷ method.StringReplace ∷ method.StringRstrip ∷ method.StringSplit ∷ method.StringStartswith ∷ method.StringStrip
-    ∷ method.StringUpper ∷ []
+    ∷ method.StringUpper
+    ∷ method.OfSet set_method.Add ∷ method.OfSet set_method.Clear ∷ method.OfSet set_method.Difference
+    ∷ method.OfSet set_method.DifferenceUpdate ∷ method.OfSet set_method.Discard
+    ∷ method.OfSet set_method.Intersection ∷ method.OfSet set_method.IntersectionUpdate
+    ∷ method.OfSet set_method.Isdisjoint ∷ method.OfSet set_method.Issubset ∷ method.OfSet set_method.Issuperset
+    ∷ method.OfSet set_method.Pop ∷ method.OfSet set_method.Remove ∷ method.OfSet set_method.SymmetricDifference
+    ∷ method.OfSet set_method.SymmetricDifferenceUpdate ∷ method.OfSet set_method.Union
+    ∷ method.OfSet set_method.Update ∷ []
 
--- the method of the core with this name that a value of this type has
+-- the method among these with this name that a value of this type has
 abbrev pub core_method_of : List ℕ → List ℕ → Option Method
 core_method_of type name = find (λ m. same_name (receiver_type m) type && same_name (method_name m) name) methods
 
@@ -111,7 +119,7 @@ abbrev pub names_once : List (List ℕ) → List (List ℕ)
 names_once [] = []
 names_once (n ∷ ns) = put_name n (names_once ns)
 
--- the names of the methods of a type: those of the core, those of the table, all
+-- the names of the methods of a type: those above, those of the table, all
 abbrev pub core_names : List ℕ → List (List ℕ)
 core_names type = map method_name (filter (λ m. same_name (receiver_type m) type) methods)
 

@@ -26,6 +26,7 @@ use Rattle.star_meaning.specs.Json.{call_decode, call_encode, call_encode_indent
 use Rattle.star_meaning.specs.Pairs.{pairs_count, pairs_of, dict_of}
 use Rattle.star_meaning.specs.Orders.{by_itself, can_sort, is_before, sort_by, want_reverse}
 use Rattle.star_store.specs.Sorting.{in_order}
+use Rattle.star_meaning.specs.SetMethods.{call_set}
 use Rattle.star_meaning.specs.Spelling.{spelled}
 use Rattle.star_meaning.specs.Structs.{call_struct}
 
@@ -295,6 +296,7 @@ call_built_in w levels line built_in.Hasattr g = call_hasattr w line g
 call_built_in w levels line built_in.Hash g = call_hash w line g
 call_built_in w levels line built_in.Json g = fail code.BadType line
 call_built_in w levels line built_in.Ord g = call_ord w line g
+call_built_in w levels line built_in.Set g = call_set w levels line g
 call_built_in w levels line built_in.Struct g = call_struct line g
 call_built_in w levels line built_in.JsonDecode g = call_decode w levels line g
 call_built_in w levels line built_in.JsonEncode g = call_encode w levels line g

@@ -13,7 +13,8 @@ use Rattle.star_outline.specs.Syntax.{ExpressionForm, ParameterForm, parameter}
 use Rattle.star_meaning.specs.Run.{Action, ◌>>=◌, give, check, each, build, seeing}
 use Rattle.star_meaning.specs.Program.{Setting, Variables}
 use Rattle.star_meaning.specs.Values.{is_true, check_key, new_text, new_tuple, new_list, new_dict, place_in}
-use Rattle.star_meaning.specs.Operators.{operate, prefix, comparison, with_entry}
+use Rattle.star_meaning.specs.Operators.{operate, prefix, comparison}
+use Rattle.star_meaning.specs.Entries.{with_entry}
 use Rattle.star_meaning.specs.Subscript.{index, slice}
 use Rattle.star_meaning.specs.Attributes.{attribute}
 use Rattle.star_meaning.specs.Semantics.{Semantics}

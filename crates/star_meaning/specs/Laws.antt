@@ -41,11 +41,12 @@ pub record KeepsFrame (f g : Frame) : Type 0 where
   pub parent : g.parent ≡ f.parent
   pub slots : length g.slots ≡ length f.slots
 
--- the changes that a cell may undergo: a list stays a list, a dictionary a dictionary, a frame the same frame; all
--- others stay as they are
+-- the changes that a cell may undergo: a list stays a list, a dictionary a dictionary, a set a set, a frame the
+-- same frame; all others stay as they are
 abbrev pub KeepsKind : Cell → Cell → Type 0
 KeepsKind (cell.List xs) d = (ys : List Value) × (d ≡ cell.List ys)
 KeepsKind (cell.Dict es) d = (fs : List (Value × Value)) × (d ≡ cell.Dict fs)
+KeepsKind (cell.Set es) d = (fs : List (Value × Value)) × (d ≡ cell.Set fs)
 KeepsKind (cell.Frame f) d = (g : Frame) × (d ≡ cell.Frame g) × KeepsFrame f g
 KeepsKind c d = d ≡ c
 

@@ -7,8 +7,10 @@ pub mod Local
 pub mod Variables
 pub mod Values
 pub mod Texts
+pub mod Entries
 pub mod Operators
 pub mod Subscript
+pub mod Sets
 pub mod Percent
 pub mod Expressions
 pub mod Comprehensions
@@ -29,6 +31,7 @@ pub mod BuiltIns
 pub mod Format
 pub mod ListMethods
 pub mod DictMethods
+pub mod SetMethods
 pub mod TextMethods
 pub mod TableMethods
 pub mod Methods

@@ -11,6 +11,7 @@ use Rattle.star_meaning.specs.Values.{want_text}
 use Rattle.star_meaning.specs.declared.given.Arguments.{Arguments}
 use Rattle.star_meaning.specs.ListMethods.{call_append, call_clear, call_extend, call_index, call_insert, call_pop, call_remove}
 use Rattle.star_meaning.specs.DictMethods.{call_get, call_items, call_keys, call_values, call_dict_pop, call_popitem, call_setdefault, call_update}
+use Rattle.star_meaning.specs.SetMethods.{call_on_set}
 use Rattle.star_meaning.specs.TextMethods.{call_edge, call_find, call_join, call_split, call_strip, call_case, call_replace, call_format}
 use Rattle.star_meaning.specs.TableMethods.{call_in_table, call_wider}
 use Rattle.star_meaning.specs.Texts.{lower, upper}
@@ -50,4 +51,5 @@ call_method w levels line method.DictPopitem x g = call_popitem w line x g
 call_method w levels line method.DictSetdefault x g = call_setdefault w levels line x g
 call_method w levels line method.DictUpdate x g = call_update w levels line x g
 call_method w levels line method.DictValues x g = call_values w line x g
+call_method w levels line (method.OfSet m) x g = call_on_set w levels line m x g
 call_method w levels line m x g = want_text w line x >>= λ t. on_text w levels line m t g

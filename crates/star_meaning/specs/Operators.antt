@@ -1,5 +1,5 @@
 -- The operators.
-use Rattle.std.specs.Prelude.{ℕ, zero, suc, ◌+◌, ◌-◌, ◌*◌, ◌^◌, nat_eq, nat_lt, Bool, true, false, not, ◌&&◌, List, [], ◌∷◌, ◌++◌, length, drop, Option, Some, None, is_some, ℤ, pos, negsuc, ◌+ℤ◌, ◌-ℤ◌, ◌*ℤ◌, neg_ℤ, if◌then◌else◌, Result, Ok, Err}
+use Rattle.std.specs.Prelude.{ℕ, zero, suc, ◌+◌, ◌-◌, ◌*◌, ◌^◌, nat_eq, nat_lt, Bool, true, false, not, ◌&&◌, List, [], ◌∷◌, ◌++◌, length, drop, Option, Some, None, is_some, ℤ, pos, negsuc, ◌+ℤ◌, ◌-ℤ◌, ◌*ℤ◌, neg_ℤ, if◌then◌else◌}
 use Rattle.std.specs.List.{starts_with}
 use Rattle.std.specs.Int.{w64, int_bit_and, int_bit_or, int_bit_xor, int_bit_not}
 use Rattle.std.specs.Ordering.{int_eq, is_lt, is_gt}
@@ -7,11 +7,9 @@ use Rattle.std.specs.declared.cmp.Ordering.{Ordering}
 use Rattle.star_store.specs.declared.values.Value.{Value}
 use Rattle.star_store.specs.declared.values.Value.TheVariants as value
 use Rattle.star_store.specs.declared.values.Cell.TheVariants as cell
-use Rattle.star_store.specs.declared.fault.StoreFault.{StoreFault}
 use Rattle.star_store.specs.declared.range.Range.{Range}
 use Rattle.star_store.specs.Range.{range_length}
 use Rattle.star_store.specs.Arithmetic.{floored, floored_by, left_over}
-use Rattle.star_store.specs.Write.{put}
 use Rattle.star_tree.specs.declared.tree.UnaryOperator.{UnaryOperator}
 use Rattle.star_tree.specs.declared.tree.UnaryOperator.TheVariants as unary
 use Rattle.star_tree.specs.declared.tree.BinaryOperator.{BinaryOperator}
@@ -19,10 +17,13 @@ use Rattle.star_tree.specs.declared.tree.BinaryOperator.TheVariants as binary
 use Rattle.star_tree.specs.declared.tree.Comparator.{Comparator}
 use Rattle.star_tree.specs.declared.tree.Comparator.TheVariants as comparator
 use Rattle.star_meaning.specs.declared.fault.FaultCode.TheVariants as code
-use Rattle.star_meaning.specs.Run.{State, Action, ◌>>=◌, give, fail, pay, found, seeing, make}
+use Rattle.star_meaning.specs.declared.merge.Merge.TheVariants as merge
+use Rattle.star_meaning.specs.Run.{Action, ◌>>=◌, give, fail, pay, found, seeing, make}
 use Rattle.star_meaning.specs.Program.{Setting}
 use Rattle.star_meaning.specs.Values.{Content, Number, Held, with_content, int_of, new_int, new_text, new_tuple, new_list, new_dict, want_text, is_true, equal, compare, check_key, place_in}
+use Rattle.star_meaning.specs.Entries.{with_entries}
 use Rattle.star_meaning.specs.Percent.{percent}
+use Rattle.star_meaning.specs.Sets.{merge_new}
 
 -- a row repeated this many times
 abbrev pub times : {A : Type 0} → ℕ → List A → List A
@@ -33,20 +34,6 @@ times (suc n) xs = xs ++ times n xs
 abbrev pub count_from : ℤ → ℕ
 count_from (pos n) = n
 count_from (negsuc n) = 0
-
--- the entries with one more put in: a key that is there keeps its place
-abbrev pub entries_after : List (Value × Value) → Result (Option Value × List (Value × Value)) StoreFault
-    → List (Value × Value)
-entries_after es (Ok r) = r.1
-entries_after es (Err f) = es
-
-abbrev pub with_entry : Setting → State → List (Value × Value) → Value × Value → List (Value × Value)
-with_entry w s es e = entries_after es (put e.0 e.1 (place_in w s e.0 es) es)
-
--- the entries with others put in, in order
-abbrev pub with_entries : Setting → State → List (Value × Value) → List (Value × Value) → List (Value × Value)
-with_entries w s es [] = es
-with_entries w s es (f ∷ fs) = with_entries w s (with_entry w s es f) fs
 
 -- x + y: ints; two strings, lists or tuples
 abbrev pub add : ℕ → Content → Content → Action Value
@@ -109,6 +96,14 @@ on_others w levels line binary.Add c d y = add line c d
 on_others w levels line binary.Multiply c d y = multiply line c d
 on_others w levels line binary.Modulo (Held (cell.Text t)) d y = percent w levels line t d y
 on_others w levels line binary.BitOr (Held (cell.Dict es)) (Held (cell.Dict fs)) y = union w line es fs
+on_others w levels line binary.BitOr (Held (cell.Set es)) (Held (cell.Set fs)) y =
+    merge_new w levels line merge.Union es (y ∷ [])
+on_others w levels line binary.BitAnd (Held (cell.Set es)) (Held (cell.Set fs)) y =
+    merge_new w levels line merge.Intersection es (y ∷ [])
+on_others w levels line binary.Subtract (Held (cell.Set es)) (Held (cell.Set fs)) y =
+    merge_new w levels line merge.Difference es (y ∷ [])
+on_others w levels line binary.BitXor (Held (cell.Set es)) (Held (cell.Set fs)) y =
+    merge_new w levels line merge.SymmetricDifference es (y ∷ [])
 on_others w levels line _ c d y = fail code.BadType line
 
 abbrev pub on_contents : Setting → ℕ → ℕ → BinaryOperator → Content → Content → Value → Action Value
@@ -170,11 +165,13 @@ list_contains w levels line [] x = give false
 list_contains w levels line (y ∷ ys) x =
     equal w levels line y x >>= λ b. if b then give true else list_contains w levels line ys x
 
--- whether x is in y: an equal item, a key, an int of a range, a substring
+-- whether x is in y: an equal item, a key, an element of a set, an int of a range, a substring
 abbrev pub has : Setting → ℕ → ℕ → Content → Value → Action Bool
 has w levels line (Held (cell.List ys)) x = list_contains w levels line ys x
 has w levels line (Held (cell.Tuple ys)) x = list_contains w levels line ys x
 has w levels line (Held (cell.Dict es)) x =
+    check_key w levels line x >>= λ _. seeing (λ s. give (is_some (place_in w s x es)))
+has w levels line (Held (cell.Set es)) x =
     check_key w levels line x >>= λ _. seeing (λ s. give (is_some (place_in w s x es)))
 has w levels line (Held (cell.Range r)) x = with_content w x (λ c. give (range_has_value r (int_of c)))
 has w levels line (Held (cell.Text t)) x =

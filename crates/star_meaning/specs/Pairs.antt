@@ -7,7 +7,7 @@ use Rattle.star_meaning.specs.Run.{Action, ◌>>=◌, give, fail, pay, each, all
 use Rattle.star_meaning.specs.Program.{Setting}
 use Rattle.star_meaning.specs.Values.{Content, Held, with_content, count_of, take_items, take_all, check_key, new_dict}
 use Rattle.star_meaning.specs.Subscript.{put_entry}
-use Rattle.star_meaning.specs.Operators.{with_entry}
+use Rattle.star_meaning.specs.Entries.{with_entry}
 use Rattle.star_meaning.specs.declared.given.KeywordArgument.{KeywordArgument}
 use Rattle.star_meaning.specs.Arguments.{key_for}
 

@@ -16,6 +16,7 @@ use Rattle.star_tree.specs.declared.tree.Position.{Position}
 use Rattle.star_tree.specs.declared.tree.Argument.TheOpen as tree
 use Rattle.star_tree.specs.declared.tree.Form.TheOpen as form
 use Rattle.star_meaning.specs.declared.fault.FaultCode.TheVariants as code
+use Rattle.star_meaning.specs.declared.merge.Merge.TheVariants as merge
 use Rattle.star_meaning.specs.declared.site.Site.{Site}
 use Rattle.star_meaning.specs.declared.site.Flow.{Flow}
 use Rattle.star_meaning.specs.declared.site.Flow.TheVariants as flow
@@ -27,15 +28,22 @@ use Rattle.star_meaning.specs.Operators.{operate}
 use Rattle.star_meaning.specs.Subscript.{set_index}
 use Rattle.star_meaning.specs.ListMethods.{extend}
 use Rattle.star_meaning.specs.Pairs.{update_with}
+use Rattle.star_meaning.specs.Sets.{augment_set}
 use Rattle.star_meaning.specs.Semantics.{Semantics, block, turns}
 use Rattle.star_meaning.specs.Targets.{to_target}
 use Rattle.star_meaning.specs.Expressions.{new_function}
 
--- `+=` on a list works as `extend`, `|=` on a dictionary as `update`; else it computes as the operator does
+-- `+=` on a list works as `extend`, `|=` on a dictionary as `update`, `|=`, `&=`, `-=` and `^=` on a set are writes;
+-- else it computes as the operator does
 abbrev pub augment_content : Setting → ℕ → ℕ → BinaryOperator → Value → Value → Content → Action Value
 augment_content w levels line binary.Add x y (Held (cell.List xs)) = extend w line x y >>= λ _. give x
 augment_content w levels line binary.BitOr x y (Held (cell.Dict es)) =
     update_with w levels line x (Some y) [] (guard w line x) >>= λ _. give x
+augment_content w levels line binary.BitOr x y (Held (cell.Set es)) = augment_set w levels line merge.Union x y
+augment_content w levels line binary.BitAnd x y (Held (cell.Set es)) = augment_set w levels line merge.Intersection x y
+augment_content w levels line binary.Subtract x y (Held (cell.Set es)) = augment_set w levels line merge.Difference x y
+augment_content w levels line binary.BitXor x y (Held (cell.Set es)) =
+    augment_set w levels line merge.SymmetricDifference x y
 augment_content w levels line op x y c = operate w levels line op x y
 
 abbrev pub augmented : Setting → ℕ → ℕ → BinaryOperator → Value → Value → Action Value

@@ -61,9 +61,10 @@ pay_if_new line (Some i) = give tt
 
 abbrev pub entries_in : Content → List (Value × Value)
 entries_in (Held (cell.Dict es)) = es
+entries_in (Held (cell.Set es)) = es
 entries_in _ = []
 
--- puts an entry into an existing dictionary, and pays 1 if its key is new
+-- puts an entry into an existing dictionary or set, and pays 1 if its key is new
 unfoldable pub put_entry : Setting → ℕ → Value → Value → Value → Action (Unit {0})
 put_entry w line d k v = do
   _ ← seeing (λ s. pay_if_new line (place_in w s k (entries_in (content w s d))))

@@ -72,6 +72,7 @@ type_name (Held (cell.Func f)) = codes "function"
 type_name (Held (cell.Frame f)) = []
 type_name (Held (cell.Bound m v)) = codes "builtin_function_or_method"
 type_name (Held (cell.Struct fs)) = codes "struct"
+type_name (Held (cell.Set es)) = codes "set"
 type_name Nowhere = []
 
 -- the int, the bool or the bytes of the string that a value is
@@ -101,7 +102,7 @@ want_text w line v = with_content w v (λ c. found code.BadType line (text_of c)
 abbrev pub new_int : ℕ → ℤ → Action Value
 new_int line z = agreed line (checked z) >>= λ n. give (value.Int n)
 
--- new strings, tuples, lists and dictionaries: 1 and their bytes, items or entries
+-- new strings, tuples, lists, dictionaries and sets: 1 and their bytes, items, entries or elements
 abbrev pub new_text : ℕ → List ℕ → Action Value
 new_text line t = build line (1 + length t) (cell.Text t)
 
@@ -114,11 +115,15 @@ new_list line xs = build line (1 + length xs) (cell.List xs)
 abbrev pub new_dict : ℕ → List (Value × Value) → Action Value
 new_dict line es = build line (1 + length es) (cell.Dict es)
 
--- how many items an iterable has: a list, a tuple, a dictionary (its keys) or a range
+abbrev pub new_set : ℕ → List (Value × Value) → Action Value
+new_set line es = build line (1 + length es) (cell.Set es)
+
+-- how many items an iterable has: a list, a tuple, a dictionary (its keys), a set (its elements) or a range
 abbrev pub count_in : Content → Option ℕ
 count_in (Held (cell.Tuple xs)) = Some (length xs)
 count_in (Held (cell.List xs)) = Some (length xs)
 count_in (Held (cell.Dict es)) = Some (length es)
+count_in (Held (cell.Set es)) = Some (length es)
 count_in (Held (cell.Range r)) = Some (range_length r)
 count_in _ = None
 
@@ -131,6 +136,7 @@ abbrev pub item_in : Content → ℕ → Option Value
 item_in (Held (cell.Tuple xs)) i = slice_get xs i
 item_in (Held (cell.List xs)) i = slice_get xs i
 item_in (Held (cell.Dict es)) i = option_map (λ e. e.0) (slice_get es i)
+item_in (Held (cell.Set es)) i = option_map (λ e. e.0) (slice_get es i)
 item_in (Held (cell.Range r)) i = range_item r i
 item_in _ i = None
 
@@ -205,7 +211,7 @@ value_in w s k es = keys.value_of (seen w s) k es
 abbrev pub text_value : Setting → State → List ℕ → List (Value × Value) → Option Value
 text_value w s t es = keys.text_value (seen w s) t es
 
--- the write guard: `type` if it is not a list or dictionary, then `frozen`, then `iterating`
+-- the write guard: `type` if it is not a list, dictionary or set, then `frozen`, then `iterating`
 unfoldable pub guard : Setting → ℕ → Value → Action (Unit {0})
 guard w line v = seeing (λ s. agreed line (may_write s.store w.shelf v))
 
@@ -213,6 +219,6 @@ abbrev pub written : ℕ → Result (Option Value × Store) StoreFault → Actio
 written line (Ok r) = λ s. Done r.0 (record s { store = r.1 })
 written line (Err f) = λ s. agreed line (Err f) s
 
--- a change of a list or a dictionary, with the value replaced or taken out
+-- a change of a list, a dictionary or a set, with the value replaced or taken out
 unfoldable pub change : Setting → ℕ → Value → Change → Action (Option Value)
 change w line v c = seeing (λ s. written line (write s.store w.shelf v c))

@@ -54,7 +54,7 @@ core_built_ins =
 abbrev pub further_built_ins : List BuiltIn
 further_built_ins =
     built_in.Chr ∷ built_in.Dir ∷ built_in.Getattr ∷ built_in.Hasattr ∷ built_in.Hash ∷ built_in.Json ∷ built_in.Ord
-    ∷ built_in.Struct ∷ []
+    ∷ built_in.Set ∷ built_in.Struct ∷ []
 
 abbrev pub built_ins : Dialect → List BuiltIn
 built_ins dialect.Core = core_built_ins

@@ -11,6 +11,7 @@
 //! - `Site` is where a run is: file, frame and line.
 //! - `Arguments` are the evaluated arguments of a call.
 //! - `Flow` is how a statement ends: it goes on, returns, breaks or continues.
+//! - `Merge` and `Relation` say what is asked of sets.
 //! - `Step` and the others of `story` are the story of a fault for a person. No definition uses them.
 //!
 //! The laws are empty functions in `law`, whose contracts are the statements. Lines only grow and steps only fall, more
@@ -22,5 +23,6 @@
 pub mod fault;
 pub mod given;
 pub mod law;
+pub mod merge;
 pub mod site;
 pub mod story;

@@ -21,6 +21,7 @@ before_some (Held (cell.Func g)) r us f h = cc
 before_some (Held (cell.Frame g)) r us f h = cc
 before_some (Held (cell.Bound m v)) r us f h = cc
 before_some (Held (cell.Struct fs)) r us f h = cc
+before_some (Held (cell.Set es)) r us f h = cc
 before_some Nothing r us f h = cc
 before_some (Truth b) r us f h = cc
 before_some (Number n) r us f h = cc

@@ -19,15 +19,22 @@ use star_machine::setting::Setting;
 use star_machine::subscript::put_entry;
 use star_meaning::fault::FaultCode;
 use star_store::arena::write::Change;
-use star_store::values::{Cell, Value, Values};
+use star_store::values::{Value, Values};
 use std::alloc::{AllocError, Global};
 
-/// The first entry of a dictionary.
-fn first_entry(machine: &Machine, setting: &Setting, dict: Value) -> Option<(Value, Value)>
-    ensures { result ≡ slice_get (entries_in (content setting.now machine.now dict)) 0 }
+/// The first entry of a dictionary, or of a set.
+pub(crate) fn first_entry(
+    machine: &Machine,
+    setting: &Setting,
+    value: Value,
+) -> Option<(Value, Value)>
+    ensures { result ≡ slice_get (entries_in (content setting.now machine.now value)) 0 }
 {
-    match machine.content(setting, dict) {
-        Content::Held(Cell::Dict(entries)) => entries.get(0),
+    match machine.content(setting, value) {
+        Content::Held(cell) => match cell.entries() {
+            Some(entries) => entries.get(0),
+            None => None,
+        },
         _ => None,
     }
 }

@@ -55,8 +55,8 @@ const BUILT_INS: [&str; 24] = [
 ];
 
 /// The further names of the outermost block of the extended language.
-const FURTHER: [&str; 8] = [
-    "chr", "dir", "getattr", "hasattr", "hash", "json", "ord", "struct",
+const FURTHER: [&str; 9] = [
+    "chr", "dir", "getattr", "hasattr", "hash", "json", "ord", "set", "struct",
 ];
 
 /// A file whose text parses: its tokens and its tree.

@@ -23,7 +23,11 @@ const EXTENDED: &str = "the extended language has it: `--language extended`";
 const STRUCTS: &str =
     "the extended language has it: `--language extended`; here write `dict(a = 1)`, and read it as `d[\"a\"]`";
 
-const NO_SETS: &str = "there are no sets: use a dict whose values are `True`";
+const SETS: &str =
+    "the extended language has it: `--language extended`; here use a dict whose values are `True`";
+
+const FROZEN_SETS: &str =
+    "the extended language has `set`: `--language extended`; else use a dict whose values are `True`";
 
 const NO_FLOATS: &str = "there are no floats: count in a smaller unit with ints";
 
@@ -54,8 +58,8 @@ const OF_DIALECTS: &[(&'static str, &'static str)] = &[
     ("this", NO_CLASSES),
     ("super", NO_CLASSES),
     ("struct", STRUCTS),
-    ("set", NO_SETS),
-    ("frozenset", NO_SETS),
+    ("set", SETS),
+    ("frozenset", FROZEN_SETS),
     ("float", NO_FLOATS),
     ("round", NO_FLOATS),
     ("getattr", ATTRIBUTES),

@@ -23,6 +23,10 @@ use Rattle.star_meaning.specs.Orders.{asked_for_best, asked_to_sort, best_by, so
 use Rattle.star_meaning.specs.Expressions.{fresh_entries}
 use Rattle.star_meaning.specs.ListMethods.{extend}
 use Rattle.star_meaning.specs.Attributes.{attribute}
+use Rattle.star_meaning.specs.declared.merge.Merge.{Merge}
+use Rattle.star_meaning.specs.declared.merge.Merge.TheVariants as merge
+use Rattle.star_meaning.specs.Sets.{augment_set, merge_into, merge_new, relate, take_elements}
+use Rattle.star_meaning.specs.SetMethods.{call_on_set}
 use Rattle.star_meaning.specs.Methods.{call_method}
 use Rattle.star_meaning.specs.Operators.{comparison, on_contents, on_others, operate, prefix}
 use Rattle.star_meaning.specs.Percent.{Between, Format, Name, Named, Position, filled, format_letter, is_letter, letter_in, named_text, next_text, opens, percent, put_in, value_for}
@@ -39,7 +43,7 @@ unfolding given name_key count_of take_item
 same-given os w line ps = refl
 
 pub same-call_built_in : (os : List (Option Outline)) (w : Setting) (levels line : ℕ) (b : BuiltIn) (g : Arguments) → call_built_in (with_outlines os w) levels line b g ≡ call_built_in w levels line b g
-unfolding call_built_in operate prefix comparison pairs_of put_pairs dict_of update_with index put_entry set_index slice count_of take_item iterate is_true equal compare check_key repr encoded str guard change extend name_key
+unfolding call_built_in operate prefix comparison pairs_of put_pairs dict_of update_with index put_entry set_index slice count_of take_item iterate is_true equal compare check_key repr encoded str guard change extend name_key take_elements merge_new merge_into relate call_on_set
 same-call_built_in os w levels line b g = refl
 
 pub same-asked_to_sort : (os : List (Option Outline)) (w : Setting) (line : ℕ) (g : Arguments) → asked_to_sort (with_outlines os w) line g ≡ asked_to_sort w line g
@@ -59,7 +63,7 @@ unfolding compare
 same-best_by os w levels line better ps = refl
 
 pub same-call_method : (os : List (Option Outline)) (w : Setting) (levels line : ℕ) (b : Method) (x : Value) (g : Arguments) → call_method (with_outlines os w) levels line b x g ≡ call_method w levels line b x g
-unfolding call_method call_built_in attribute operate prefix comparison pairs_of put_pairs dict_of update_with index put_entry set_index slice count_of take_item iterate is_true equal compare check_key repr encoded str guard change extend name_key
+unfolding call_method call_built_in attribute operate prefix comparison pairs_of put_pairs dict_of update_with index put_entry set_index slice count_of take_item iterate is_true equal compare check_key repr encoded str guard change extend name_key take_elements merge_new merge_into relate call_on_set
 same-call_method os w levels line b x g = refl
 
 pub same-attribute : (os : List (Option Outline)) (w : Setting) (line : ℕ) (x : Value) (name : List ℕ) → attribute (with_outlines os w) line x name ≡ attribute w line x name
@@ -123,9 +127,10 @@ same-remainder os w levels line (Held (cell.Func f)) d y = refl
 same-remainder os w levels line (Held (cell.Frame f)) d y = refl
 same-remainder os w levels line (Held (cell.Bound m x)) d y = refl
 same-remainder os w levels line (Held (cell.Struct fs)) d y = refl
+same-remainder os w levels line (Held (cell.Set es)) d y = refl
 
 same-on_others : (os : List (Option Outline)) (w : Setting) (levels line : ℕ) (op : BinaryOperator) (c d : Content) (y : Value) → on_others (with_outlines os w) levels line op c d y ≡ on_others w levels line op c d y
-unfolding equal compare check_key repr str is_true count_of take_item guard change iterate
+unfolding equal compare check_key repr str is_true count_of take_item guard change iterate take_elements merge_new
 same-on_others os w levels line binary.Add c d y = refl
 same-on_others os w levels line binary.Subtract c d y = refl
 same-on_others os w levels line binary.Multiply c d y = refl
@@ -151,7 +156,7 @@ same-on_contents os w levels line op (Held h) d y = same-on_others os w levels l
 same-on_contents os w levels line op Nowhere d y = same-on_others os w levels line op Nowhere d y
 
 pub same-operate : (os : List (Option Outline)) (w : Setting) (levels line : ℕ) (op : BinaryOperator) (x y : Value) → operate (with_outlines os w) levels line op x y ≡ operate w levels line op x y
-unfolding operate equal compare check_key repr str is_true count_of take_item guard change iterate
+unfolding operate equal compare check_key repr str is_true count_of take_item guard change iterate take_elements merge_new
 same-operate os w levels line op x y = λ i. with_content w x (λ c. with_content w y (λ d. same-on_contents os w levels line op c d y i))
 
 pub same-prefix : (os : List (Option Outline)) (w : Setting) (line : ℕ) (op : UnaryOperator) (v : Value) → prefix (with_outlines os w) line op v ≡ prefix w line op v
@@ -217,9 +222,17 @@ same-update_with : (os : List (Option Outline)) (w : Setting) (levels line : ℕ
 unfolding update_with put_pairs pairs_of put_entry check_key count_of take_item guard change name_key
 same-update_with os w levels line x o ns a = refl
 
+same-augment_set : (os : List (Option Outline)) (w : Setting) (levels line : ℕ) (m : Merge) (x y : Value) → augment_set (with_outlines os w) levels line m x y ≡ augment_set w levels line m x y
+unfolding merge_into take_elements put_entry check_key count_of take_item guard change
+same-augment_set os w levels line m x y = refl
+
 augments : (os : List (Option Outline)) (w : Setting) (levels line : ℕ) (op : BinaryOperator) (x y : Value) (c : Content) → augment_content (with_outlines os w) levels line op x y c ≡ augment_content w levels line op x y c
 augments os w levels line binary.Add x y (Held (cell.List xs)) = ap (λ a. a >>= λ _. give x) (same-extend os w line x y)
 augments os w levels line binary.BitOr x y (Held (cell.Dict es)) = ap (λ a. a >>= λ _. give x) (same-update_with os w levels line x (Some y) [] (guard (with_outlines os w) line x) ∙ ap (update_with w levels line x (Some y) []) (same-guard os w line x))
+augments os w levels line binary.BitOr x y (Held (cell.Set es)) = same-augment_set os w levels line merge.Union x y
+augments os w levels line binary.BitAnd x y (Held (cell.Set es)) = same-augment_set os w levels line merge.Intersection x y
+augments os w levels line binary.Subtract x y (Held (cell.Set es)) = same-augment_set os w levels line merge.Difference x y
+augments os w levels line binary.BitXor x y (Held (cell.Set es)) = same-augment_set os w levels line merge.SymmetricDifference x y
 augments os w levels line op x y c = same-operate os w levels line op x y
 
 pub same-augmented : (os : List (Option Outline)) (w : Setting) (levels line : ℕ) (op : BinaryOperator) (x y : Value) → augmented (with_outlines os w) levels line op x y ≡ augmented w levels line op x y

@@ -113,6 +113,7 @@ cell_more a b r (cell.Func f) h = (values_more a b r f.defaults h.0, value_more 
 cell_more a b r (cell.Frame f) h = (there_more a b r f.parent h.0, slots_more a b r f.slots h.1, r.file f.file h.2)
 cell_more a b r (cell.Bound m v) h = value_more a b r v h
 cell_more a b r (cell.Struct fs) h = fields_more a b r fs h
+cell_more a b r (cell.Set es) h = pairs_more a b r es h
 
 pub cells_more : (a b : Hides) → Reveals a b → (es : List HeapCell) → CellsAreVisible a es → CellsAreVisible b es
 cells_more a b r [] h = tt

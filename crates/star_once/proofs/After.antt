@@ -13,7 +13,7 @@ use Rattle.star_store.specs.Store.{Shelf, Store, look, made, next_value, publish
 use Rattle.star_store.specs.Write.{cell_at, put}
 use Rattle.star_meaning.specs.declared.fault.FaultCode.{FaultCode}
 use Rattle.star_meaning.specs.declared.fault.FaultCode.TheVariants as code
-use Rattle.star_meaning.specs.Operators.{entries_after, with_entries, with_entry}
+use Rattle.star_meaning.specs.Entries.{entries_after, with_entries, with_entry}
 use Rattle.star_meaning.specs.Program.{Setting, seen}
 use Rattle.star_meaning.specs.Run.{Action, Done, Failed, Outcome, State, and_then, build, check, fail, give, make, pay, settled}
 use Rattle.star_meaning.specs.Values.{check_key, new_dict, new_text}
@@ -96,6 +96,7 @@ cell_there f (Some (cell.Struct fs)) n left u h = tt
 cell_there f (Some (cell.List xs)) n left u h = absurd (let no : ⊥ = cc in no)
 cell_there f (Some (cell.Dict xs)) n left u h = absurd (let no : ⊥ = cc in no)
 cell_there f (Some (cell.Range xs)) n left u h = absurd (let no : ⊥ = cc in no)
+cell_there f (Some (cell.Set xs)) n left u h = absurd (let no : ⊥ = cc in no)
 cell_there f (Some (cell.Func xs)) n left u h = absurd (let no : ⊥ = cc in no)
 cell_there f (Some (cell.Frame xs)) n left u h = absurd (let no : ⊥ = cc in no)
 cell_there f (Some (cell.Bound m xs)) n left u h = absurd (let no : ⊥ = cc in no)

@@ -32,6 +32,7 @@ use Rattle.star_once.proofs.Arguments.{given_after}
 use Rattle.star_once.proofs.Keeps.{AllKeep, Keeps, KeepsWhere, VariablesKeep, keeps, once_by}
 use Rattle.star_meaning.proofs.KeepsArguments.{respects-none_or_one}
 use Rattle.star_meaning.proofs.KeepsAttributes.{respects-call_chr, respects-call_dir, respects-call_getattr, respects-call_hasattr, respects-call_hash, respects-call_ord, respects-call_struct}
+use Rattle.star_meaning.proofs.KeepsSets.{respects-call_set}
 use Rattle.star_meaning.proofs.KeepsBuiltIns.{respects-call_abs, respects-call_all, respects-call_any, respects-call_best, respects-call_bool, respects-call_enumerate, respects-call_fail, respects-call_int, respects-call_len, respects-call_list, respects-call_print, respects-call_range, respects-call_repr, respects-call_reversed, respects-call_sorted, respects-call_str, respects-call_tuple, respects-call_type, respects-call_zip}
 use Rattle.star_meaning.proofs.KeepsCallee.{respects-callee}
 use Rattle.star_meaning.proofs.KeepsOrders.{respects-asked_for_best, respects-asked_to_sort, respects-best_by, respects-sort_by}
@@ -126,6 +127,7 @@ built_in_differs w levels line built_in.Hasattr g s h n = (once_by (respects-cal
 built_in_differs w levels line built_in.Hash g s h n = (once_by (respects-call_hash w line g)).holds s h
 built_in_differs w levels line built_in.Json g s h n = tt
 built_in_differs w levels line built_in.Ord g s h n = (once_by (respects-call_ord w line g)).holds s h
+built_in_differs w levels line built_in.Set g s h n = (once_by (respects-call_set w levels line g)).holds s h
 built_in_differs w levels line built_in.Struct g s h n = (once_by {w = w} (respects-call_struct line g)).holds s h
 built_in_differs w levels line built_in.JsonDecode g s h n = decode_differs w levels line g s h
 built_in_differs w levels line built_in.JsonEncode g s h n = (once_by (respects-call_encode w levels line g)).holds s h

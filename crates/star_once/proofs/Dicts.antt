@@ -9,7 +9,7 @@ use Rattle.star_meaning.specs.declared.given.KeywordArgument.{KeywordArgument}
 use Rattle.star_meaning.specs.Arguments.{comes_twice, key_for, name_key}
 use Rattle.star_meaning.specs.Binding.{key_and_value}
 use Rattle.star_meaning.specs.Expressions.{fresh_entries, fresh_entry}
-use Rattle.star_meaning.specs.Operators.{with_entry}
+use Rattle.star_meaning.specs.Entries.{with_entry}
 use Rattle.star_meaning.specs.Pairs.{Pairs, check_pair, dict_of, pair_of, pairs_in, pairs_of, taken_entries, with_named, with_pair, with_pairs}
 use Rattle.star_meaning.specs.Program.{Setting, seen}
 use Rattle.star_meaning.specs.Run.{State, check, each, give, pay, seeing, ◌>>=◌}

@@ -107,6 +107,9 @@ keeps_make_bound m v = keeps_other (cell.Bound m v) (λ es e. let no : ⊥ = cc 
 pub keeps_make_struct : {w : Setting} (fs : List (List ℕ × Value)) → Keeps w (make (cell.Struct fs))
 keeps_make_struct fs = keeps_other (cell.Struct fs) (λ es e. let no : ⊥ = cc in no)
 
+pub keeps_make_set : {w : Setting} (es : List (Value × Value)) → Keeps w (make (cell.Set es))
+keeps_make_set es = keeps_other (cell.Set es) (λ fs e. let no : ⊥ = cc in no)
+
 pub keeps_make_frame : {w : Setting} (x : Frame) → Keeps w (make (cell.Frame x))
 keeps_make_frame x = keeps_other (cell.Frame x) (λ es e. let no : ⊥ = cc in no)
 
@@ -240,6 +243,7 @@ once w = record {
   makes_range = keeps_make_range;
   makes_bound = keeps_make_bound;
   makes_struct = keeps_make_struct;
+  makes_set = keeps_make_set;
   changes = keeps_change w;
   adds_line = keeps_add_line;
   iterates = keeps_while w;
@@ -266,4 +270,4 @@ keeps_turns f n i k = once_by (respects_turns f n i (λ j. record { kept = k j }
 pub keeps_repeat : {w : Setting} (f : ℕ → Action (Unit {0})) (n i : ℕ) → ((i : ℕ) → Keeps w (f i)) → Keeps w (repeat f n i)
 keeps_repeat f n i k = once_by (respects_repeat f n i (λ j. record { kept = k j }))
 
-pub ruleset keeps = (refl, keeps_then, keeps_give, keeps_fail, keeps_if, keeps_found, keeps_pay, keeps_seeing, keeps_check, keeps_make_text, keeps_make_tuple, keeps_make_list, keeps_make_range, keeps_make_bound, keeps_make_struct, keeps_make_frame, keeps_make_function, keeps_make_none, keeps_build, keeps_each, keeps_all_of, keeps_visiting, keeps_bound, keeps_change, keeps_iterate, keeps_leave, keeps_activate, keeps_deactivate, keeps_add_line, keeps_block, keeps_turns, keeps_repeat, keeps_read, keeps_bind, keeps_frame, keeps_expr, keeps_stmt, keeps_assign, keeps_parts)
+pub ruleset keeps = (refl, keeps_then, keeps_give, keeps_fail, keeps_if, keeps_found, keeps_pay, keeps_seeing, keeps_check, keeps_make_text, keeps_make_tuple, keeps_make_list, keeps_make_range, keeps_make_bound, keeps_make_struct, keeps_make_set, keeps_make_frame, keeps_make_function, keeps_make_none, keeps_build, keeps_each, keeps_all_of, keeps_visiting, keeps_bound, keeps_change, keeps_iterate, keeps_leave, keeps_activate, keeps_deactivate, keeps_add_line, keeps_block, keeps_turns, keeps_repeat, keeps_read, keeps_bind, keeps_frame, keeps_expr, keeps_stmt, keeps_assign, keeps_parts)

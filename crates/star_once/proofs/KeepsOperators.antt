@@ -5,11 +5,11 @@ use Rattle.star_tree.specs.declared.tree.BinaryOperator.{BinaryOperator}
 use Rattle.star_tree.specs.declared.tree.BinaryOperator.TheVariants as binary
 use Rattle.star_meaning.specs.Program.{Setting}
 use Rattle.star_meaning.specs.Values.{Content, Number, Held}
-use Rattle.std.proofs.Common.{ℕ, List}
+use Rattle.std.proofs.Common.{ℕ, List, [], ◌∷◌}
 use Rattle.star_meaning.specs.Run.{Action}
 use Rattle.star_meaning.specs.Operators.{add, multiply, union, on_ints, on_others, on_contents, operate}
 use Rattle.star_once.proofs.Keeps.{Keeps, once_by}
-use Rattle.star_meaning.specs.Operators.{with_entries}
+use Rattle.star_meaning.specs.Entries.{with_entries}
 use Rattle.star_meaning.specs.Percent.{percent}
 use Rattle.star_meaning.specs.Program.{seen}
 use Rattle.star_meaning.specs.Run.{State}
@@ -19,6 +19,9 @@ use Rattle.star_once.specs.Keys.{Differ, KeysDiffer}
 use Rattle.star_once.proofs.After.{differ_there, new_dict_differs, with_entries_differ}
 use Rattle.star_once.proofs.Dicts.{held_differ}
 use Rattle.star_once.proofs.Writes as writes
+use Rattle.star_meaning.specs.declared.merge.Merge.TheVariants as merge
+use Rattle.star_meaning.specs.Sets.{merge_new}
+use Rattle.star_meaning.proofs.KeepsSets.{respects-merge_new}
 use Rattle.star_meaning.proofs.KeepsPercent.{respects-percent}
 use Rattle.star_meaning.proofs.KeepsOperators.{respects-add, respects-multiply, respects-on_ints}
 
@@ -38,6 +41,10 @@ others_differ w levels line binary.Add c d y s h a b = now w (add line c d) s h 
 others_differ w levels line binary.Multiply c d y s h a b = now w (multiply line c d) s h (once_by (respects-multiply line c d))
 others_differ w levels line binary.Modulo (Held (cell.Text t)) d y s h a b = now w (percent w levels line t d y) s h (once_by (respects-percent w levels line t d y))
 others_differ w levels line binary.BitOr (Held (cell.Dict es)) (Held (cell.Dict fs)) y s h a b = union_differs w line es fs s h (a es refl) (b fs refl)
+others_differ w levels line binary.BitOr (Held (cell.Set es)) (Held (cell.Set fs)) y s h a b = now w (merge_new w levels line merge.Union es (y ∷ [])) s h (once_by (respects-merge_new w levels line merge.Union es (y ∷ [])))
+others_differ w levels line binary.BitAnd (Held (cell.Set es)) (Held (cell.Set fs)) y s h a b = now w (merge_new w levels line merge.Intersection es (y ∷ [])) s h (once_by (respects-merge_new w levels line merge.Intersection es (y ∷ [])))
+others_differ w levels line binary.Subtract (Held (cell.Set es)) (Held (cell.Set fs)) y s h a b = now w (merge_new w levels line merge.Difference es (y ∷ [])) s h (once_by (respects-merge_new w levels line merge.Difference es (y ∷ [])))
+others_differ w levels line binary.BitXor (Held (cell.Set es)) (Held (cell.Set fs)) y s h a b = now w (merge_new w levels line merge.SymmetricDifference es (y ∷ [])) s h (once_by (respects-merge_new w levels line merge.SymmetricDifference es (y ∷ [])))
 others_differ w levels line _ c d y s h a b = tt
 
 contents_differ : (w : Setting) (levels line : ℕ) (op : BinaryOperator) (c d : Content) (y : Value) (s : State) → KeysDiffer w s → EntriesDiffer w s c → EntriesDiffer w s d → writes.Held w (on_contents w levels line op c d y s)

@@ -71,6 +71,7 @@ key_there f (Some (cell.Struct fs)) h = tt
 key_there f (Some (cell.List xs)) h = absurd (let no : ⊥ = cc in no)
 key_there f (Some (cell.Dict xs)) h = absurd (let no : ⊥ = cc in no)
 key_there f (Some (cell.Range xs)) h = absurd (let no : ⊥ = cc in no)
+key_there f (Some (cell.Set xs)) h = absurd (let no : ⊥ = cc in no)
 key_there f (Some (cell.Func xs)) h = absurd (let no : ⊥ = cc in no)
 key_there f (Some (cell.Frame xs)) h = absurd (let no : ⊥ = cc in no)
 key_there f (Some (cell.Bound m xs)) h = absurd (let no : ⊥ = cc in no)

@@ -25,6 +25,7 @@ kind_fixed (cell.Struct fs) d f k = k
 kind_fixed (cell.List xs) d f k = absurd f
 kind_fixed (cell.Dict xs) d f k = absurd f
 kind_fixed (cell.Range xs) d f k = absurd f
+kind_fixed (cell.Set xs) d f k = absurd f
 kind_fixed (cell.Func xs) d f k = absurd f
 kind_fixed (cell.Frame xs) d f k = absurd f
 kind_fixed (cell.Bound m xs) d f k = absurd f

@@ -59,6 +59,10 @@ in_list : (o : Result (Option Value × List Value) StoreFault) (x : Option Value
 in_list (Ok q) x es h = let e : (q.0, cell.List q.1) ≡ (x, cell.Dict es) = cc in let f : cell.List q.1 ≡ cell.Dict es = ap (λ (z : Option Value × Cell). z.1) e in let no : ⊥ = cc in no
 in_list (Err f) x es h = let no : ⊥ = cc in no
 
+in_set : (o : Result (Option Value × List (Value × Value)) StoreFault) (x : Option Value) (es : List (Value × Value)) → in_cell cell.Set o ≡ Ok (x, cell.Dict es) → ⊥
+in_set (Ok q) x es h = let e : (q.0, cell.Set q.1) ≡ (x, cell.Dict es) = cc in let f : cell.Set q.1 ≡ cell.Dict es = ap (λ (z : Option Value × Cell). z.1) e in let no : ⊥ = cc in no
+in_set (Err f) x es h = let no : ⊥ = cc in no
+
 in_dict : (look : Value → Option Cell) (o : Result (Option Value × List (Value × Value)) StoreFault) (x : Option Value) (es : List (Value × Value)) → DifferIn look o → in_cell cell.Dict o ≡ Ok (x, cell.Dict es) → Differ look es
 in_dict look (Ok q) x es d h = let e : (q.0, cell.Dict q.1) ≡ (x, cell.Dict es) = cc in let f : cell.Dict q.1 ≡ cell.Dict es = ap (λ (z : Option Value × Cell). z.1) e in let same : q.1 ≡ es = cc in subst (Differ look) same (d q refl)
 in_dict look (Err f) x es d h = absurd (let no : ⊥ = cc in no)
@@ -66,6 +70,7 @@ in_dict look (Err f) x es d h = absurd (let no : ⊥ = cc in no)
 entries_differ : (look : Value → Option Cell) (c : Change) (o : Option Cell) (x : Option Value) (es : List (Value × Value)) → is_good_key look (key_of c) ≡ true → ((fs : List (Value × Value)) → o ≡ Some (cell.Dict fs) → Differ look fs) → change_cell c (place_in look (key_of c) o) o ≡ Ok (x, cell.Dict es) → Differ look es
 entries_differ look c (Some (cell.List xs)) x es good d h = absurd (in_list (change_items c xs) x es h)
 entries_differ look c (Some (cell.Dict fs)) x es good d h = in_dict look (change_entries c (place_in look (key_of c) (Some (cell.Dict fs))) fs) x es (change_in look c fs good (d fs refl)) h
+entries_differ look c (Some (cell.Set fs)) x es good d h = absurd (in_set (change_entries c (place_in look (key_of c) (Some (cell.Set fs))) fs) x es h)
 entries_differ look c (Some (cell.Text t)) x es good d h = absurd (let no : ⊥ = cc in no)
 entries_differ look c (Some (cell.Tuple t)) x es good d h = absurd (let no : ⊥ = cc in no)
 entries_differ look c (Some (cell.Range t)) x es good d h = absurd (let no : ⊥ = cc in no)

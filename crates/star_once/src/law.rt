@@ -35,7 +35,8 @@ pub fn results_keep_keys()
     ensures { ResultsKeepKeys }
 {}
 
-/// So two values there that are equal and have JSON have the same JSON. (`docs/USING.md`, "Values as JSON".)
+/// So two values there that are equal and have JSON have the same JSON, if there is no set in the left one.
+/// (`docs/USING.md`, "Values as JSON".)
 pub fn equal_results_are_same()
     ensures { EqualResultsAreSame }
 {

@@ -6,8 +6,8 @@
 //! consequences:
 //!
 //! - After a run of any file, in its own store and in those that it sees, no dictionary has a string twice as a key. So
-//!   the premise of `star_data::equal_are_same` holds of all that the files of a plan leave: equal values have one
-//!   JSON.
+//!   the first premise of `star_data::equal_are_same` holds of all that the files of a plan leave: equal values have
+//!   one JSON, if there is no set in the left one.
 //! - No two globals of a module have the same name.
 //!
 //! Begin at `specs/Keys.antt`, `specs/Laws.antt` and `specs/Results.antt`. The proof is an induction over the whole

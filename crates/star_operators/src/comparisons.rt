@@ -38,7 +38,7 @@ fn list_contains(
     Ok(place.is_some())
 }
 
-/// Whether a value is a key of a dictionary. `BadType` if it is not hashable.
+/// Whether a value is a key of a dictionary, or an element of a set. `BadType` if it is not hashable.
 fn dict_contains(
     machine: &mut Machine,
     setting: &Setting,
@@ -81,9 +81,9 @@ fn is_substring(machine: &Machine, setting: &Setting, part: Value, text: Value) 
     place_between(text, machine.bytes(setting, part), 0, text.len()).is_some()
 }
 
-/// Whether a value is in another one: an equal item of a list or tuple, a key of a dictionary, an int of a range, a
-/// substring. `BadType` for other values.
-#[tactic(auto, using(crate::proofs::KindCases::has_list, crate::proofs::KindCases::has_tuple, crate::proofs::KindCases::has_dict, crate::proofs::KindCases::has_text, crate::proofs::KindCases::has_range, crate::proofs::KindCases::has_other))]
+/// Whether a value is in another one: an equal item of a list or tuple, a key of a dictionary, an element of a set, an
+/// int of a range, a substring. `BadType` for other values.
+#[tactic(auto, using(crate::proofs::KindCases::has_list, crate::proofs::KindCases::has_tuple, crate::proofs::KindCases::has_dict, crate::proofs::KindCases::has_set, crate::proofs::KindCases::has_text, crate::proofs::KindCases::has_range, crate::proofs::KindCases::has_other))]
 fn has(
     machine: &mut Machine,
     setting: &Setting,
@@ -98,6 +98,7 @@ fn has(
         Kind::List => list_contains(machine, setting, levels, line, value, container),
         Kind::Tuple => list_contains(machine, setting, levels, line, value, container),
         Kind::Dict => dict_contains(machine, setting, levels, line, value, container),
+        Kind::Set => dict_contains(machine, setting, levels, line, value, container),
         Kind::Text => has_text(machine, setting, line, value, container),
         Kind::Range(range) => Ok(has_int(range, machine.int_of(setting, value))),
         _ => Err(fault_at(FaultCode::BadType, line)),

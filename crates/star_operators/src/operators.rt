@@ -6,17 +6,21 @@
 ghost use Rattle.std.specs.Prelude.{◌≡◌, ◌<◌, ◌+◌, ◌*◌, ◌^◌, ◌++◌, IfOk};
 ghost use Rattle.star_store.specs.Arithmetic.{checked, floored_by};
 ghost use Rattle.star_machine.specs.Refines.{Refines};
+ghost use Rattle.star_meaning.specs.Entries.{with_entries};
 ghost use Rattle.star_meaning.specs.Operators as spec;
+ghost use Rattle.star_meaning.specs.Sets.{is_set};
 ghost use Rattle.star_meaning.specs.Values.{content};
-ghost use Rattle.star_operators.specs.Operands.{on_operands};
+ghost use Rattle.star_operators.specs.Operands.{are_sets, on_dicts, on_operands, on_sets};
 
 use crate::percent::percent;
 use star_machine::content::{Content, Kind};
 use star_machine::fault::{EvalError, fault_at};
 use star_machine::gathered::DictBuilder;
 use star_machine::machine::Machine;
+use star_machine::sets::merge_new;
 use star_machine::setting::Setting;
 use star_meaning::fault::FaultCode;
+use star_meaning::merge::Merge;
 use star_store::arithmetic::{add, floor_div, floor_mod, mul, neg, shl, sub};
 use star_store::fault::StoreFault;
 use star_store::values::{Cell, Entries, Value, Values};
@@ -306,7 +310,7 @@ fn union_of(
     left: &Entries,
     right: &Entries,
 ) -> Result<Entries, AllocError>
-    ensures { IfOk result (λ r. r ≡ spec.with_entries setting.now machine.now left.now right.now) }
+    ensures { IfOk result (λ r. r ≡ with_entries setting.now machine.now left.now right.now) }
 {
     let copy = copied(machine.alloc(), left)?;
     let mut made = DictBuilder::of(machine, setting, copy, right.len());
@@ -317,15 +321,15 @@ fn union_of(
 }
 
 /// A new dictionary of the left one's entries, with the right one's put in. `BadType` for other operands.
-fn unite(
+fn unite_dicts(
     machine: &mut Machine,
     setting: &Setting,
-    levels: u32,
     line: usize,
     x: Value,
     y: Value,
 ) -> Result<Value, EvalError>
-    ensures { Refines (on_operands setting.now levels line BinaryOperator.BitOr x y machine.old) result machine.new }
+    ensures { Refines (on_dicts setting.now line (content setting.now machine.old x) (content setting.now machine.old y)
+        machine.old) result machine.new }
 {
     match (machine.content(setting, x), machine.content(setting, y)) {
         (Content::Held(Cell::Dict(left)), Content::Held(Cell::Dict(right))) => {
@@ -336,7 +340,60 @@ fn unite(
     }
 }
 
+/// Whether a value is a set.
+fn is_set(machine: &Machine, setting: &Setting, value: Value) -> bool
+    ensures { result ≡ is_set (content setting.now machine.now value) }
+{
+    matches!(machine.content(setting, value), Content::Held(Cell::Set(_)))
+}
+
+/// Whether two values are sets.
+fn are_sets(machine: &Machine, setting: &Setting, x: Value, y: Value) -> bool
+    ensures { result ≡ are_sets (content setting.now machine.now x) (content setting.now machine.now y) }
+{
+    is_set(machine, setting, x) && is_set(machine, setting, y)
+}
+
+/// A new set of two that are merged. `BadType` for other operands.
+#[tactic(auto, using(crate::proofs::KindCases::sets_both, crate::proofs::KindCases::sets_not))]
+fn merge_sets(
+    machine: &mut Machine,
+    setting: &Setting,
+    levels: u32,
+    line: usize,
+    merge: Merge,
+    x: Value,
+    y: Value,
+) -> Result<Value, EvalError>
+    ensures { Refines (on_sets setting.now levels line merge (content setting.now machine.old x)
+        (content setting.now machine.old y) y machine.old) result machine.new }
+{
+    if !are_sets(machine, setting, x, y) {
+        return Err(fault_at(FaultCode::BadType, line));
+    }
+    merge_new(machine, setting, levels, line, merge, x, &[y])
+}
+
+/// Of two sets a new set, of two dictionaries a new dictionary. `BadType` for other operands.
+#[tactic(auto, using(crate::proofs::KindCases::or_sets, crate::proofs::KindCases::or_others))]
+fn unite(
+    machine: &mut Machine,
+    setting: &Setting,
+    levels: u32,
+    line: usize,
+    x: Value,
+    y: Value,
+) -> Result<Value, EvalError>
+    ensures { Refines (on_operands setting.now levels line BinaryOperator.BitOr x y machine.old) result machine.new }
+{
+    if are_sets(machine, setting, x, y) {
+        return merge_sets(machine, setting, levels, line, Merge::Union, x, y);
+    }
+    unite_dicts(machine, setting, line, x, y)
+}
+
 /// The result of the operator on operands that are not two ints. `BadType` if it does not take them.
+#[tactic(auto, using(crate::proofs::KindCases::sets_and, crate::proofs::KindCases::sets_minus, crate::proofs::KindCases::sets_xor))]
 fn on_others(
     machine: &mut Machine,
     setting: &Setting,
@@ -353,6 +410,23 @@ fn on_others(
         BinaryOperator::Multiply => multiply(machine, setting, line, x, y),
         BinaryOperator::BitOr => unite(machine, setting, levels, line, x, y),
         BinaryOperator::Modulo => modulo(machine, setting, levels, line, x, y),
+        BinaryOperator::Subtract => {
+            merge_sets(machine, setting, levels, line, Merge::Difference, x, y)
+        }
+        BinaryOperator::BitAnd => {
+            merge_sets(machine, setting, levels, line, Merge::Intersection, x, y)
+        }
+        BinaryOperator::BitXor => {
+            merge_sets(
+                machine,
+                setting,
+                levels,
+                line,
+                Merge::SymmetricDifference,
+                x,
+                y,
+            )
+        }
         _ => Err(fault_at(FaultCode::BadType, line)),
     }
 }

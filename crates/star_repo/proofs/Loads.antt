@@ -1,5 +1,5 @@
 -- Which labels load statements name.
-use Rattle.std.proofs.Common.{◌≡◌, ◌⊎◌, inl, inr, ℕ, List, ◌++◌, subst, Ok, Err}
+use Rattle.std.proofs.Common.{◌≡◌, ◌⊎◌, inl, inr, ℕ, List, [], ◌++◌, subst, sym, ap, Ok, Err}
 use Rattle.std.specs.Prelude.{◌↔◌, Result}
 pub use Rattle.star_label.proofs.Colons.{one_label}
 use Rattle.star_lex.specs.declared.token.SyntaxFault.{SyntaxFault}
@@ -8,9 +8,11 @@ use Rattle.star_parser.specs.Sources.{Parses}
 use Rattle.star_parser.proofs.Once.{one_answer}
 use Rattle.star_tree.specs.declared.tree.Tree.{Tree}
 use Rattle.star_scope.specs.Loads.{Written, written}
-use Rattle.star_repo.specs.Loading.{LoadsLabel}
+use Rattle.star_label.specs.declared.label.Label.{Label}
+use Rattle.star_label.specs.Label.{package_of}
+use Rattle.star_repo.specs.Loading.{AreLoads, LoadsLabel}
 use Rattle.star_words.specs.Rows.{IsIn}
-use Rattle.star_repo.specs.Views.{IsNamed}
+use Rattle.star_repo.specs.Views.{GainsLabels, IsNamed, labels_of}
 use Rattle.star_repo.proofs.Labels.{in_back, in_either, in_front}
 use Rattle.star_repo.proofs.Rows.{from_in, to_in}
 
@@ -44,3 +46,21 @@ no_loads here text fault m parses named h =
   where
     err_same : (a b : SyntaxFault) → ◌≡◌ {A = Result Tree SyntaxFault} (Err a) (Err b) → a ≡ b
     err_same a b e = cc
+
+in_none : (m : List ℕ) (old : List Label) → old ≡ [] → IsIn m (labels_of old) → ⊥
+in_none m old e i = subst (λ ls. IsIn m (labels_of ls)) e i
+
+-- the labels that the load statements of a text's tree name, put to none, are those that it loads
+pub loads_of_text : (label text here : List ℕ) (tree : Tree) (old new : List Label) → here ≡ package_of label → old ≡ [] → Parses text (Ok tree)
+    → GainsLabels old new (IsNamed here (written tree.statements)) → AreLoads label text (labels_of new)
+loads_of_text label text here tree old new place none parses gains m =
+    let both = loads_of_tree (package_of label) text tree m parses in (
+      (λ i. elim ((gains m).0 i) [ inl j ↦ absurd (in_none m old none j) | inr n ↦ both.0 (subst (λ h. IsNamed h (written tree.statements) m) place n) ]),
+      (λ l. (gains m).1 (inr (subst (λ h. IsNamed h (written tree.statements) m) (sym place) (both.1 l)))),
+    )
+
+-- a text that does not parse loads none
+pub loads_of_none : (label text : List ℕ) (fault : SyntaxFault) (old : List Label) → old ≡ [] → Parses text (Err fault) → (fault ≡ Memory → ⊥)
+    → AreLoads label text (labels_of old)
+loads_of_none label text fault old none parses other m =
+    ((λ i. absurd (in_none m old none i)), (λ l. absurd (no_loads (package_of label) text fault m parses other l)))

@@ -10,7 +10,7 @@ use crate::repo::Repo;
 use star_folder::disk::{counted, front_of_size, kind_of, path_of, refused};
 use star_folder::folder::{FolderError, Kind};
 use star_label::label::Label;
-use star_words::pattern::Listing;
+use star_words::pattern::{Apart, Listing};
 use std::alloc::{AllocError, Global};
 use std::collections::BTreeMap;
 use std::fs::{self, DirEntry};
@@ -38,7 +38,7 @@ pub struct Top<'a> {
 }
 
 /// The folder at a path of the disk. It counts its failures. It promises nothing about its content, since no contract
-/// can say what a disk gives. Where a link leads that is not followed, there is no file.
+/// can say what a disk gives. Where a link leads that is not followed, there is no file, and none is below `/proc`.
 #[derive(Drop)]
 pub struct DiskRepo<'a, R> {
     rt: &'a R,
@@ -124,37 +124,49 @@ fn size_at<R: Files>(rt: &R, path: &str) -> io::Result<Option<u64>> {
     }
 }
 
-/// The rest of a path below a folder, without the slashes before it; `None` if it does not lead there.
+/// The rest of a path to a folder or below it, without the slashes before it; `None` if it does not lead there.
 fn rest_below<'p>(folder: &str, path: &'p str) -> Option<&'p str> {
     let rest = path.strip_prefix(folder)?;
-    if rest.starts_with('/') || folder.ends_with('/') {
+    if rest == "" || rest.starts_with('/') || folder.ends_with('/') {
         return Some(rest.trim_start_matches('/'));
     }
     None
 }
 
+/// Whether a real path is that of `/proc` or of what is below it.
+fn is_of_system(real: &str) -> bool {
+    real == "/proc" || real.starts_with("/proc/")
+}
+
 impl<'a> Top<'a> {
-    /// Whether all links on the way to a path below the folder are followed, if it leads to this real path.
-    fn leads(self, path: &str, real: &str) -> bool {
-        let rest = rest_below(self.real, real);
-        match self.links {
-            Links::Anywhere => true,
-            Links::Inside => rest.is_some(),
-            Links::Never => rest.is_some() && rest == rest_below(self.path, path),
+    /// Why a path below the folder that leads to this real path leads to no file of it; `None` if it may.
+    fn apart_by(self, path: &str, real: &str) -> Option<Apart> {
+        if is_of_system(real) {
+            return Some(Apart::System);
         }
+        if self.links == Links::Anywhere {
+            return None;
+        }
+        let rest = rest_below(self.real, real);
+        if rest.is_none() {
+            return Some(Apart::Outside);
+        }
+        if self.links == Links::Inside || rest == rest_below(self.path, path) {
+            return None;
+        }
+        Some(Apart::Linked)
     }
 
-    /// Whether a path below the folder leads somewhere by links that are not followed.
-    fn is_left<R: Files + AllocGlobal>(self, rt: &R, path: &str) -> io::Result<bool> {
-        if self.links == Links::Anywhere {
-            return Ok(false);
-        }
-        match unless_nowhere(fs::canonicalize(rt, path))? {
-            Some(real) => match real.to_str() {
-                Some(real) => Ok(!self.leads(path, real)),
-                None => Ok(true),
-            },
-            None => Ok(false),
+    /// Why what a path below the folder leads to is no file of it, by where it lies. `None` if it may be one, or if the
+    /// path leads to nothing.
+    fn apart_at<R: Files + AllocGlobal>(self, rt: &R, path: &str) -> io::Result<Option<Apart>> {
+        let Some(real) = unless_nowhere(fs::canonicalize(rt, path))? else {
+            return Ok(None);
+        };
+        match real.to_str() {
+            Some(real) => Ok(self.apart_by(path, real)),
+            None if self.links == Links::Anywhere => Ok(None),
+            None => Ok(Some(Apart::Outside)),
         }
     }
 }
@@ -171,12 +183,12 @@ fn text_in(alloc: Global, mut bytes: Vec<u8>) -> Result<Vec<u8>, AllocError>
 }
 
 /// The size in bytes of the file that a path below a folder leads to, by links that are followed. `None` if it does not
-/// lead to a file.
+/// lead to a file of it.
 fn size_below<R: Files + AllocGlobal>(rt: &R, top: Top<'_>, path: &str) -> io::Result<Option<u64>> {
-    if top.is_left(rt, path)? {
-        return Ok(None);
+    match top.apart_at(rt, path)? {
+        Some(_) => Ok(None),
+        None => size_at(rt, path),
     }
-    size_at(rt, path)
 }
 
 /// Looks a path below a folder up.
@@ -234,7 +246,7 @@ fn entries_of<R: Files + AllocGlobal + Clone + Drop>(
     below.push('/')?;
     below.push_str(path)?;
     let mut entries = BTreeMap::new(alloc);
-    if path != "" && top.is_left(rt, below.as_str())? {
+    if path != "" && top.apart_at(rt, below.as_str())?.is_some() {
         return Ok(entries);
     }
     for entry in fs::read_dir(rt, below.as_str())? {
@@ -252,5 +264,10 @@ impl<'a, R: Files + AllocGlobal + Clone + Drop> Listing for DiskRepo<'a, R> {
         path: &str,
     ) -> Result<BTreeMap<String, Kind>, FolderError> {
         entries_of(self.rt, self.top, path).map_err(refused)
+    }
+
+    fn apart(&self, alloc: Global, label: &Label) -> Option<Apart> {
+        let path = path_of(alloc, self.top.path, label).ok()?;
+        self.top.apart_at(self.rt, path.as_str()).ok()?
     }
 }

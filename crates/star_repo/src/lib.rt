@@ -9,7 +9,8 @@
 //! - `known` has texts that were parsed before, which are not parsed again.
 //! - `asked::read_asked` begins with the words of the command line.
 //! - `RepoError` is a refusal with its label, and `wanting` finds the load statement to name beside it.
-//! - `text::text_at` is the text of one file, apart from a run.
+//! - `text::text_at` is the text of one file, apart from a run; `loads_of` has the labels that it loads.
+//! - `WatchedRepo` is the disk, and keeps which labels have no file since a link leads out of the folder.
 //!
 //! Begin at `reach.rt`, from its end. The promise is the contract of `read_reached`: the files of the least set of
 //! labels that has the roots and all loads of its members (`specs/Reach`), or the one refusal that comes first, by
@@ -31,6 +32,7 @@ pub mod repo;
 mod round;
 pub mod text;
 pub mod wanting;
+pub mod watched;
 
 pub use law::{
     one_map, one_map_of_said, one_refusal, others_change_nothing, reached_by_rounds,

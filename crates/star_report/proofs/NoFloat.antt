@@ -87,6 +87,7 @@ cell_plain look f h (Some (cell.Tuple xs)) d e = let all = mapped array (items_d
 cell_plain look f h (Some (cell.List xs)) d e = let all = mapped array (items_data f xs) d e in ap has_float (sym all.2) ∙ items_plain f h xs all.0 all.1
 cell_plain look f h (Some (cell.Dict es)) d e = let all = mapped object (entries_data look f es) d e in ap has_float (sym all.2) ∙ entries_plain look f h es all.0 all.1
 cell_plain look f h (Some (cell.Struct fs)) d e = let all = mapped object (fields_data f fs) d e in ap has_float (sym all.2) ∙ fields_plain f h fs all.0 all.1
+cell_plain look f h (Some (cell.Set es)) d e = let all = mapped array (items_data f (map (λ (x : Value × Value). x.0) es)) d e in ap has_float (sym all.2) ∙ items_plain f h (map (λ (x : Value × Value). x.0) es) all.0 all.1
 cell_plain look f h (Some (cell.Range r)) d e = absurd (let no : ⊥ = cc in no)
 cell_plain look f h (Some (cell.Func r)) d e = absurd (let no : ⊥ = cc in no)
 cell_plain look f h (Some (cell.Frame r)) d e = absurd (let no : ⊥ = cc in no)

@@ -33,7 +33,7 @@ core_names =
 abbrev pub further_names : Names
 further_names =
     codes "chr" ∷ codes "dir" ∷ codes "getattr" ∷ codes "hasattr" ∷ codes "hash" ∷ codes "json" ∷ codes "ord"
-    ∷ codes "struct" ∷ []
+    ∷ codes "set" ∷ codes "struct" ∷ []
 
 -- the names of the outermost block of a dialect
 abbrev pub outermost_names : Dialect → Names

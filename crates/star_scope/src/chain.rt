@@ -89,8 +89,8 @@ const OUTERMOST: [&str; 24] = [
 ];
 
 /// The further names of the outermost block of the extended language.
-const FURTHER: [&str; 8] = [
-    "chr", "dir", "getattr", "hasattr", "hash", "json", "ord", "struct",
+const FURTHER: [&str; 9] = [
+    "chr", "dir", "getattr", "hasattr", "hash", "json", "ord", "set", "struct",
 ];
 
 fn is_among(mut names: &[&str], name: &str) -> bool

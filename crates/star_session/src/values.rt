@@ -28,7 +28,7 @@ fn bytes_of(cell: &Cell) -> usize {
         Cell::Text(text) => text.as_str().len(),
         Cell::Tuple(items) => items.len().saturating_mul(ITEM_BYTES),
         Cell::List(items) => items.len().saturating_mul(ITEM_BYTES),
-        Cell::Dict(entries) => entries.len().saturating_mul(ENTRY_BYTES),
+        Cell::Dict(entries) | Cell::Set(entries) => entries.len().saturating_mul(ENTRY_BYTES),
         Cell::Func(_) => LARGE_BYTES,
         Cell::Frame(_) => LARGE_BYTES,
         Cell::Range(_) => 0,

@@ -15,6 +15,7 @@ use Rattle.star_shards.specs.Entries.{IsObject}
 use Rattle.star_shards.specs.declared.place.Place.{Place}
 use Rattle.star_shards.specs.declared.place.Mode.TheVariants.{Plain, Quoted, Escaped}
 use Rattle.star_shards.specs.Data.{ObjectsEnd}
+use Rattle.star_shards.proofs.Bools.{apart, or_first, or_second}
 
 -- from one place bytes lead to another, and none of them ends or separates anything
 abbrev pub Passes : Place → List ℕ → Place → Type 0
@@ -57,14 +58,6 @@ in_string k = record { mode = Quoted; depth = k }
 and_none : (b : Bool) → (b && false) ≡ false
 and_none true = refl
 and_none false = refl
-
-or_first : (a b : Bool) → (a || b) ≡ false → a ≡ false
-or_first true b h = cc
-or_first false b h = refl
-
-or_second : (a b : Bool) → (a || b) ≡ false → b ≡ false
-or_second true b h = cc
-or_second false b h = h
 
 -- ---- bytes that are no quote, bracket or comma
 
@@ -183,13 +176,9 @@ glyph_quiet (suc (suc (suc (suc (suc (suc (suc (suc (suc (suc (suc (suc (suc (su
 glyph_quiet (suc (suc (suc (suc (suc (suc (suc (suc (suc (suc (suc (suc (suc (suc (suc zero))))))))))))))) h = (refl, refl)
 glyph_quiet (suc (suc (suc (suc (suc (suc (suc (suc (suc (suc (suc (suc (suc (suc (suc (suc d)))))))))))))))) h = absurd (omega (arith, h))
 
-true_false : (b : Bool) → b ≡ true → b ≡ false → ⊥
-true_false true on off = cc
-true_false false on off = cc
-
 no_letter : (a b : Bool) (x y : ℕ) → (a ≡ true → nat_lt 0 x ≡ true) → (b ≡ true → nat_lt 0 x ≡ true) → nat_lt 0 (cond (a || b) x y) ≡ false → (a ≡ false) × (b ≡ false)
-no_letter true b x y f g h = absurd (true_false (nat_lt 0 x) (f refl) h)
-no_letter false true x y f g h = absurd (true_false (nat_lt 0 x) (g refl) h)
+no_letter true b x y f g h = absurd (apart (nat_lt 0 x) (f refl) h)
+no_letter false true x y f g h = absurd (apart (nat_lt 0 x) (g refl) h)
 no_letter false false x y f g h = (refl, refl)
 
 above : (x n : ℕ) → nat_lt 0 n ≡ true → nat_eq x n ≡ true → nat_lt 0 x ≡ true

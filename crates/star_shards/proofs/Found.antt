@@ -12,19 +12,8 @@ use Rattle.serde_json.specs.Written.{compact_text, members_text}
 use Rattle.star_shards.specs.Places.{after, end_from, ends, front_end, later_from, separates, start}
 use Rattle.star_shards.specs.Entries.{IsEntry, IsObject, is_good_word, label_front, member_in, quote_from, status_front, string_in}
 use Rattle.star_shards.specs.Data.{IsEntryOf, IsPlain, ObjectsAreEntries, found_member, is_escaped}
+use Rattle.star_shards.proofs.Bools.{apart, or_first, or_second}
 use Rattle.star_shards.proofs.Data.{entry_passes, objects_end, passes_later, unescaped}
-
-or_first : (a b : Bool) → (a || b) ≡ false → a ≡ false
-or_first true b h = cc
-or_first false b h = refl
-
-or_second : (a b : Bool) → (a || b) ≡ false → b ≡ false
-or_second true b h = cc
-or_second false b h = h
-
-true_false : (b : Bool) → b ≡ true → b ≡ false → ⊥
-true_false true on off = cc
-true_false false on off = cc
 
 -- ---- plain texts are written as they are
 
@@ -34,7 +23,7 @@ by_number x n P (inr h) f g = g h.0
 
 other_than : (x n : ℕ) → nat_lt n 32 ≡ true → nat_lt x 32 ≡ false → nat_eq x n ≡ false
 other_than x n small large =
-    by_number x n (nat_eq x n ≡ false) (eqb_tells x n) (λ e. absurd (true_false (nat_lt x 32) (ap (λ m. nat_lt m 32) e ∙ small) large)) (λ h. h)
+    by_number x n (nat_eq x n ≡ false) (eqb_tells x n) (λ e. absurd (apart (nat_lt x 32) (ap (λ m. nat_lt m 32) e ∙ small) large)) (λ h. h)
 
 no_letter : (a b c d e f g : Bool) (x : ℕ) → a ≡ false → b ≡ false → c ≡ false → d ≡ false → e ≡ false → f ≡ false → g ≡ false
     → cond (a || b) x (cond c 98 (cond d 102 (cond e 110 (cond f 114 (cond g 116 0))))) ≡ 0
@@ -102,7 +91,7 @@ both_false true b f = f refl
 both_false false b f = refl
 
 symmetric : (a b : ℕ) → nat_eq a b ≡ false → nat_eq b a ≡ false
-symmetric a b h = by_number b a (nat_eq b a ≡ false) (eqb_tells b a) (λ e. absurd (true_false (nat_eq a b) (ap (λ n. nat_eq a n) e ∙ same_byte a) h)) (λ g. g)
+symmetric a b h = by_number b a (nat_eq b a ≡ false) (eqb_tells b a) (λ e. absurd (apart (nat_eq a b) (ap (λ n. nat_eq a n) e ∙ same_byte a) h)) (λ g. g)
 
 -- what stands in a string for a byte: a backslash and more, or the byte, which is no quote
 abbrev Shape : List ℕ → ℕ → Type 0
@@ -122,7 +111,7 @@ and_rest true b h e = h
 and_rest false b h e = cc
 
 equal_bytes : (a b : ℕ) → nat_eq a b ≡ true → nat_eq b a ≡ true
-equal_bytes a b h = by_number a b (nat_eq b a ≡ true) (eqb_tells a b) (λ e. ap (λ n. nat_eq b n) e ∙ same_byte b) (λ g. absurd (true_false (nat_eq a b) h g))
+equal_bytes a b h = by_number a b (nat_eq b a ≡ true) (eqb_tells a b) (λ e. ap (λ n. nat_eq b n) e ∙ same_byte b) (λ g. absurd (apart (nat_eq a b) h g))
 
 ends_early : (x : ℕ) (xs rest f : List ℕ) → Shape (escape_byte x) x → starts_with nat_eq (escape (x ∷ xs) ++ 34 ∷ rest) (34 ∷ f) ≡ false
 ends_early x xs rest f (inl g) = ap (λ w. starts_with nat_eq ((w ++ escape xs) ++ 34 ∷ rest) (34 ∷ f)) g.1
@@ -153,7 +142,7 @@ same_text [] [] h = refl
 same_text [] (c ∷ cs) h = cc
 same_text (x ∷ xs) [] h = cc
 same_text (x ∷ xs) (c ∷ cs) h =
-    by_number x c ((x ∷ xs) ≡ (c ∷ cs)) (eqb_tells x c) (λ e. ap (λ n. n ∷ xs) e ∙ ap (λ w. c ∷ w) (same_text xs cs (and_true (nat_eq x c) (bytes_eq xs cs) h))) (λ g. absurd (true_false (nat_eq x c && bytes_eq xs cs) h (ap (λ b. b && bytes_eq xs cs) g)))
+    by_number x c ((x ∷ xs) ≡ (c ∷ cs)) (eqb_tells x c) (λ e. ap (λ n. n ∷ xs) e ∙ ap (λ w. c ∷ w) (same_text xs cs (and_true (nat_eq x c) (bytes_eq xs cs) h))) (λ g. absurd (apart (nat_eq x c && bytes_eq xs cs) h (ap (λ b. b && bytes_eq xs cs) g)))
   where
     and_true : (a b : Bool) → (a && b) ≡ true → b ≡ true
     and_true true b g = g

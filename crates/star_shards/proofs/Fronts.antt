@@ -3,31 +3,16 @@ use Rattle.std.proofs.Common.{◌≡◌, ◌≢◌, ℕ, zero, suc, ◌+◌, ◌
 use Rattle.std.specs.Prelude.{codes, decimal, nat_eq, slice_index}
 use Rattle.std.specs.List.{list_any}
 use Rattle.std.proofs.lemmas.Bool.Decides.{nat_tests}
-use Rattle.std.proofs.lemmas.Fmt.{decimal_by_steps, decimal_digit}
-use Rattle.std.proofs.lemmas.List.{append_assoc, drop_at, get_or_at, length-append, take-append-drop, take_at}
+use Rattle.std.proofs.lemmas.Fmt.{decimal_by_steps, decimal_digit, decimal_injective}
+use Rattle.std.proofs.lemmas.List.{append_assoc, append_cancel_left, append_cancel_right, drop_at, get_or_at, length-append, take-append-drop, take_at}
 use Rattle.memchr.specs.Find.{IsFirstByte, is_byte}
-use Rattle.star_shards.specs.Lines.{IsReport, Report, front, listed, more}
+use Rattle.star_shards.specs.Lines.{IsReport, OneReport, Report, front, listed, more}
 use Rattle.star_shards.specs.Read.{IsRow}
+use Rattle.star_shards.proofs.Bools.{apart, lacks_append, Lacks, or_first, or_second}
 use Rattle.star_shards.proofs.Rows.{one_row}
 
 abbrev Free : List ℕ → Type 0
-Free xs = list_any (λ b. nat_eq b 91) xs ≡ false
-
-or_parts : (a b c : Bool) → (a || b) ≡ false → (b ≡ false → c ≡ false) → (a || c) ≡ false
-or_parts true b c h f = cc
-or_parts false b c h f = f h
-
-or_first : (a b : Bool) → (a || b) ≡ false → a ≡ false
-or_first true b h = cc
-or_first false b h = refl
-
-or_second : (a b : Bool) → (a || b) ≡ false → b ≡ false
-or_second true b h = cc
-or_second false b h = h
-
-free_append : (xs ys : List ℕ) → Free xs → Free ys → Free (xs ++ ys)
-free_append [] ys h g = g
-free_append (x ∷ xs) ys h g = or_parts (nat_eq x 91) (list_any (λ b. nat_eq b 91) xs) (list_any (λ b. nat_eq b 91) (xs ++ ys)) h (λ rest. free_append xs ys rest g)
+Free = Lacks (λ b. nat_eq b 91)
 
 digit_free : (d : ℕ) → d < 10 → Free ((48 + d) ∷ [])
 digit_free d lt = let other : 48 + d ≢ 91 = omega arith in grind (arith, nat_tests)
@@ -35,7 +20,7 @@ digit_free d lt = let other : 48 + d ≢ 91 = omega arith in grind (arith, nat_t
 decimal_free : (n : ℕ) → n < 2 ^ 64 → Free (decimal n)
 decimal_free n lt =
     decimal_by_steps (λ m ds. Free ds) (λ m small. digit_free m small)
-    (λ m ds big free. free_append ds ((48 + m % 10) ∷ []) free (digit_free (m % 10) (let small : m % 10 < 10 = omega arith in small))) n lt
+    (λ m ds big free. lacks_append (λ b. nat_eq b 91) ds ((48 + m % 10) ∷ []) free (digit_free (m % 10) (let small : m % 10 < 10 = omega arith in small))) n lt
 
 -- the front without its bracket
 before : ℕ → List ℕ
@@ -43,7 +28,7 @@ before n = codes "{\"begun\":" ++ (decimal n ++ codes ",\"modules\":")
 
 before_free : (n : ℕ) → n < 2 ^ 64 → Free (before n)
 unfolding before
-before_free n lt = free_append (codes "{\"begun\":") (decimal n ++ codes ",\"modules\":") refl (free_append (decimal n) (codes ",\"modules\":") (decimal_free n lt) refl)
+before_free n lt = lacks_append (λ b. nat_eq b 91) (codes "{\"begun\":") (decimal n ++ codes ",\"modules\":") refl (lacks_append (λ b. nat_eq b 91) (decimal n) (codes ",\"modules\":") (decimal_free n lt) refl)
 
 front_is : (n : ℕ) → front n ≡ before n ++ 91 ∷ []
 unfolding before
@@ -52,18 +37,20 @@ front_is n =
     let c = codes ",\"modules\":" in
     ap (λ w. a ++ w) (sym (append_assoc (decimal n) c (91 ∷ []))) ∙ sym (append_assoc a (decimal n ++ c) (91 ∷ []))
 
-true_false : (b : Bool) → b ≡ true → b ≡ false → ⊥
-true_false true on off = cc
-true_false false on off = cc
-
 at_bracket : (xs ys : List ℕ) (k : ℕ) → Free xs → ((j : ℕ) → 0 ≤ j → j < k → is_byte 91 (slice_index (xs ++ 91 ∷ ys) j) ≡ true → ⊥)
     → is_byte 91 (slice_index (xs ++ 91 ∷ ys) k) ≡ true → k ≡ length xs
 at_bracket [] ys zero free none here = refl
 at_bracket [] ys (suc k) free none here = absurd (none 0 (omega arith) (omega arith) refl)
-at_bracket (x ∷ xs) ys zero free none here = absurd (true_false (nat_eq x 91) here (or_first (nat_eq x 91) (list_any (λ b. nat_eq b 91) xs) free))
+at_bracket (x ∷ xs) ys zero free none here = absurd (apart (nat_eq x 91) here (or_first (nat_eq x 91) (list_any (λ b. nat_eq b 91) xs) free))
 at_bracket (x ∷ xs) ys (suc k) free none here =
     ap suc (at_bracket xs ys k (or_second (nat_eq x 91) (list_any (λ b. nat_eq b 91) xs) free)
     (λ j low high h. none (suc j) (omega arith) (omega (arith, high)) h) here)
+
+head_of : (x y : ℕ) (xs ys : List ℕ) → (x ∷ xs) ≡ (y ∷ ys) → x ≡ y
+head_of x y xs ys h = cc
+
+tail_of : (x y : ℕ) (xs ys : List ℕ) → (x ∷ xs) ≡ (y ∷ ys) → xs ≡ ys
+tail_of x y xs ys h = cc
 
 -- ---- a report by its first bracket
 
@@ -146,3 +133,32 @@ is_report line at begun ts row head whole = record {
   each = row.each;
   whole = whole;
 }
+
+-- ---- a line is one report
+
+free_split : (xs ys us vs : List ℕ) → Free xs → Free us → xs ++ 91 ∷ ys ≡ us ++ 91 ∷ vs → (xs ≡ us) × (ys ≡ vs)
+free_split [] ys [] vs h g e = (refl, tail_of 91 91 ys vs e)
+free_split [] ys (u ∷ us) vs h g e = absurd (apart (nat_eq u 91) (ap (λ b. nat_eq b 91) (sym (head_of 91 u ys (us ++ 91 ∷ vs) e))) (or_first (nat_eq u 91) (list_any (λ b. nat_eq b 91) us) g))
+free_split (x ∷ xs) ys [] vs h g e = absurd (apart (nat_eq x 91) (ap (λ b. nat_eq b 91) (head_of x 91 (xs ++ 91 ∷ ys) vs e)) (or_first (nat_eq x 91) (list_any (λ b. nat_eq b 91) xs) h))
+free_split (x ∷ xs) ys (u ∷ us) vs h g e =
+    let rest = free_split xs ys us vs (or_second (nat_eq x 91) (list_any (λ b. nat_eq b 91) xs) h) (or_second (nat_eq u 91) (list_any (λ b. nat_eq b 91) us) g)
+    (tail_of x u (xs ++ 91 ∷ ys) (us ++ 91 ∷ vs) e) in
+    (ap (λ b. b ∷ xs) (head_of x u (xs ++ 91 ∷ ys) (us ++ 91 ∷ vs) e) ∙ ap (λ w. u ∷ w) rest.0, rest.1)
+
+before_tells : (m n : ℕ) → m < 2 ^ 64 → n < 2 ^ 64 → before m ≡ before n → m ≡ n
+unfolding before
+before_tells m n hm hn e =
+    let inner : decimal m ++ codes ",\"modules\":" ≡ decimal n ++ codes ",\"modules\":" = append_cancel_left (codes "{\"begun\":") (decimal m ++ codes ",\"modules\":") (decimal n ++ codes ",\"modules\":") e in
+    decimal_injective m n hm hn (append_cancel_right (decimal m) (decimal n) (codes ",\"modules\":") inner)
+
+report_is : (r s : Report) → r.begun ≡ s.begun → r.entries ≡ s.entries → r ≡ s
+report_is r s b e = λ i. record { begun = b i; entries = e i }
+
+pub one_front : OneReport
+one_front line r s small report other =
+    let hr = few line r report small in
+    let hs = few line s other small in
+    let rest = free_split (before r.begun) (listed r.entries ++ codes "]}") (before s.begun) (listed s.entries ++ codes "]}") (before_free r.begun hr) (before_free s.begun hs)
+    (sym (line_cut line r report) ∙ line_cut line s other) in
+    report_is r s (before_tells r.begun s.begun hr hs rest.0)
+    (one_row (listed r.entries ++ codes "]}") r.entries s.entries (record { each = report.each; content_is = refl }) (record { each = other.each; content_is = rest.1 }))

@@ -1,3 +1,4 @@
+pub mod Bools
 pub mod Steps
 pub mod Objects
 pub mod Strings
@@ -10,3 +11,4 @@ pub mod Gathering
 pub mod Writing
 pub mod Data
 pub mod Found
+pub mod LineEnds

@@ -8,11 +8,6 @@ use Rattle.star_shards.specs.Lines.{listed, more}
 use Rattle.star_shards.specs.Read.{IsRow}
 use Rattle.star_shards.proofs.Entries.{one_entry}
 
--- a truth value is not both
-pub apart : (b : Bool) → b ≡ true → b ≡ false → ⊥
-apart true on off = cc
-apart false on off = cc
-
 -- the entries so far, and a rest that begins with an entry, make up a row
 pub record Goes (content : List ℕ) (ts : List (List ℕ)) (rest : List ℕ) : Type 0 where
   pub onward : (u : List ℕ) (us : List (List ℕ)) → IsRow rest (u ∷ us) → IsRow content (ts ++ u ∷ us)

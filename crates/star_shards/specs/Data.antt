@@ -5,6 +5,7 @@ use Rattle.std.specs.Str.{bytes_eq}
 use Rattle.serde_json.specs.Data.{Data, Members, member, no_members, object, string}
 use Rattle.serde_json.specs.Written.{compact_text}
 use Rattle.star_shards.specs.Entries.{IsEntry, IsObject, is_good, is_good_word, label_of}
+use Rattle.star_shards.specs.Lines.{IsOneLine}
 
 -- a byte that a string of JSON does not have as it is
 abbrev pub is_escaped : ℕ → Bool
@@ -22,6 +23,10 @@ found_member key (member k d ms) = if bytes_eq k key then Some d else found_memb
 -- the text of an object ends with the bracket that closes its first one
 abbrev pub ObjectsEnd : Type 0
 ObjectsEnd = (ms : Members) → IsObject (compact_text (object ms))
+
+-- the text of data has no line end
+abbrev pub DataAreOneLine : Type 0
+DataAreOneLine = (d : Data) → IsOneLine (compact_text d)
 
 -- the text of an object with a label and a status, which are plain strings, is an entry with these
 pub record IsEntryOf (text label status : List ℕ) : Type 0 where

@@ -1,6 +1,6 @@
 -- Lines, and the reports that they are.
-use Rattle.std.specs.Prelude.{◌≡◌, ⊤, ℕ, nat_eq, List, [], ◌∷◌, ◌++◌, ◌⊎◌, length, codes, decimal, if◌then◌else◌}
-use Rattle.std.specs.List.{All}
+use Rattle.std.specs.Prelude.{◌≡◌, ◌<◌, ◌^◌, ⊤, ℕ, nat_eq, false, List, [], ◌∷◌, ◌++◌, ◌⊎◌, length, codes, decimal, if◌then◌else◌}
+use Rattle.std.specs.List.{All, list_any}
 use Rattle.star_shards.specs.Entries.{IsEntry}
 
 -- texts with a comma before each
@@ -53,3 +53,24 @@ AreReports [] [] = ⊤
 AreReports (l ∷ ls) (r ∷ rs) = IsReport l r × AreReports ls rs
 AreReports [] (r ∷ rs) = ⊥
 AreReports (l ∷ ls) [] = ⊥
+
+-- a text without a line end
+abbrev pub IsOneLine : List ℕ → Type 0
+IsOneLine text = list_any (λ b. nat_eq b 10) text ≡ false
+
+-- texts one after another, each with a line end
+unfoldable pub ended : List (List ℕ) → List ℕ
+ended [] = []
+ended (l ∷ ls) = l ++ 10 ∷ ended ls
+
+-- the lines of texts without line ends are these texts
+abbrev pub LinesAreCut : Type 0
+LinesAreCut = (ls : List (List ℕ)) → All IsOneLine ls → lines (ended ls) ≡ ls
+
+-- the text of a report whose entries have no line end has none
+abbrev pub ReportsAreOneLine : Type 0
+ReportsAreOneLine = (r : Report) → All IsOneLine r.entries → IsOneLine (report_text r)
+
+-- a line is one report
+abbrev pub OneReport : Type 0
+OneReport = (line : List ℕ) (r s : Report) → length line < 2 ^ 63 → IsReport line r → IsReport line s → r ≡ s

@@ -18,5 +18,8 @@ mod place;
 mod refusal;
 
 pub use joined::{Joined, join};
-pub use law::{objects_are_entries, objects_end};
+pub use law::{
+    data_are_one_line, lines_are_cut, objects_are_entries, objects_end, one_report,
+    reports_are_one_line,
+};
 pub use refusal::Refusal;

@@ -14,11 +14,11 @@ use Rattle.star_store.specs.declared.content.Atom.{Atom}
 use Rattle.star_store.specs.declared.content.Atom.TheVariants as atom
 use Rattle.star_store.specs.Content.{KeepsKeys, content, content_cell, content_each, content_row, content_value, join, same_atom, same_content}
 use Rattle.star_store.specs.Fields.{names_of, values_of}
-use Rattle.star_store.specs.Index.{Covers, IsIndexed, IsKnown, Places, PlacesAt, Shows, alone, entries_of, far_home, is_far, is_within, key_entry, place_by, place_told}
+use Rattle.star_store.specs.Index.{Covers, IsIndexed, IsKnown, Places, PlacesAt, Shows, alone, entries_by, entries_of, far_home, is_far, is_within, key_entry, place_by, place_told}
 use Rattle.star_store.specs.Key.{key_levels, same_key}
 use Rattle.star_store.specs.Store.{Store}
 use Rattle.star_store.proofs.Contents.{contents_stay, same_keys, or_false}
-use Rattle.star_store.proofs.Indexes.{alike, none_found}
+use Rattle.star_store.proofs.Indexes.{alike, indexed_entries, none_found}
 
 -- contents and numbers
 
@@ -172,7 +172,7 @@ module _ (s : Store) (look : Value → Option Cell) (h : Shows look s.home s.cel
 -- a content is at the place in an index that its key has among the entries
 pub known_place : (look : Value → Option Cell) (key : Value) (atoms : List Atom) (c : Option Cell) (index : List (List Atom)) → content look key_levels key ≡ Some atoms → IsKnown look c index → Places look key c (place_told look atoms index)
 known_place look key atoms c index t k es e =
-    let right : IsIndexed k.of (Some (cell.Dict es)) index = subst (λ (d : Option Cell). IsIndexed k.of d index) e k.indexed in
+    let right : entries_by k.of es ≡ map Some index = indexed_entries k.of c es index e k.indexed in
     alike (has_key look atoms) (λ d. same_key look key_levels key d.0) index es (entries_tell k.of look k.shows key atoms t es index right)
 
 known_found : (look : Value → Option Cell) (key : Value) (c : Option Cell) (index : List (List Atom)) (o : Option (List Atom)) → content look key_levels key ≡ o → IsKnown look c index → Places look key c (option_and_then (λ atoms. place_told look atoms index) o)
@@ -226,16 +226,19 @@ covered_at homes (k ∷ index) zero a h e =
     subst (λ (j : List Atom). is_within homes (far_home j) ≡ true) q (and_parts (is_within homes (far_home k)) (list_all (λ j. is_within homes (far_home j)) index) h).0
 covered_at homes (k ∷ index) (suc at) a h e = covered_at homes index at a (and_parts (is_within homes (far_home k)) (list_all (λ j. is_within homes (far_home j)) index) h).1 e
 
+content_in : (look : Value → Option Cell) (es : List (Value × Value)) (index : List (List Atom)) (at : ℕ) (e : Value × Value) (a : List Atom) (s : Store) → Shows look s.home s.cells → entries_by s es ≡ map Some index → Covers [] index → slice_get es at ≡ Some e → slice_get index at ≡ Some a → content look key_levels e.0 ≡ Some a
+content_in look es index at e a s shows right h p q =
+    let one : slice_get (map (λ d. key_entry s d.0) es) at ≡ slice_get (map Some index) at = ap (λ (os : List (Option (List Atom))). slice_get os at) right in
+    let left : slice_get (map (λ d. key_entry s d.0) es) at ≡ Some (key_entry s e.0) = slice_get-map (λ (d : Value × Value). key_entry s d.0) es at ∙ ap (option_map (λ (d : Value × Value). key_entry s d.0)) p in
+    let there : slice_get (map Some index) at ≡ Some (Some a) = slice_get-map Some index at ∙ ap (option_map Some) q in
+    let both : Some (key_entry s e.0) ≡ Some (Some a) = sym left ∙ one ∙ there in
+    let entry : key_entry s e.0 ≡ Some a = cc in
+    entry_content s look shows e.0 a (covered_at [] index at a h q) entry
+
 -- the content at a place of an index is the content of the key there
 content_at : (look : Value → Option Cell) (c : Option Cell) (index : List (List Atom)) (at : ℕ) (e : Value × Value) (a : List Atom) → IsKnown look c index → Covers [] index → slice_get (entries_of c) at ≡ Some e → slice_get index at ≡ Some a → content look key_levels e.0 ≡ Some a
-content_at look (Some (cell.Dict es)) index at e a k h p q =
-    let right : map (λ d. key_entry k.of d.0) es ≡ map Some index = k.indexed in
-    let one : slice_get (map (λ d. key_entry k.of d.0) es) at ≡ slice_get (map Some index) at = ap (λ (os : List (Option (List Atom))). slice_get os at) right in
-    let left : slice_get (map (λ d. key_entry k.of d.0) es) at ≡ Some (key_entry k.of e.0) = slice_get-map (λ (d : Value × Value). key_entry k.of d.0) es at ∙ ap (option_map (λ (d : Value × Value). key_entry k.of d.0)) p in
-    let there : slice_get (map Some index) at ≡ Some (Some a) = slice_get-map Some index at ∙ ap (option_map Some) q in
-    let both : Some (key_entry k.of e.0) ≡ Some (Some a) = sym left ∙ one ∙ there in
-    let entry : key_entry k.of e.0 ≡ Some a = cc in
-    entry_content k.of look k.shows e.0 a (covered_at [] index at a h q) entry
+content_at look (Some (cell.Dict es)) index at e a k h p q = content_in look es index at e a k.of k.shows k.indexed h p q
+content_at look (Some (cell.Set es)) index at e a k h p q = content_in look es index at e a k.of k.shows k.indexed h p q
 content_at look (Some (cell.Text t)) index at e a k h p q = cc
 content_at look (Some (cell.Range t)) index at e a k h p q = cc
 content_at look (Some (cell.Tuple t)) index at e a k h p q = cc

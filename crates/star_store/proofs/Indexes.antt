@@ -21,7 +21,7 @@ use Rattle.star_store.specs.declared.fault.StoreFault.TheVariants.{BadType, Key}
 use Rattle.star_store.specs.Content.{KeepsKeys, content, same_content}
 use Rattle.star_store.specs.Equal.{same_entry, same_found, same_pairs}
 use Rattle.star_store.specs.Fields.{Fields}
-use Rattle.star_store.specs.Index.{AreChanged, AreIndexed, Indexes, IsIndexed, IsKnown, Places, PlacesAt, Shows, alone, beside, entries_of, index_after, index_at, key_entry, value_at}
+use Rattle.star_store.specs.Index.{AreChanged, AreIndexed, Indexes, IsIndexed, IsKnown, Places, PlacesAt, Shows, alone, beside, entries_by, entries_of, held_entries, index_after, index_at, key_entry, value_at}
 use Rattle.star_store.specs.Key.{find_in, is_key, key_levels, place_of, same_key, value_of}
 use Rattle.star_store.specs.Spend.{Spend, answer}
 use Rattle.star_store.specs.Store.{Published, Shelf, Store, bound_cell, changed_at, closed_in, is_container, look, opened_in, published_cells}
@@ -196,6 +196,7 @@ each_stays s t k (e ∷ es) (a ∷ index) h =
 
 stays_indexed : (s t : Store) (c : Option Cell) (index : List (List Atom)) → Stays s t → IsIndexed s c index → IsIndexed t c index
 stays_indexed s t (Some (cell.Dict es)) index k h = each_stays s t k es index h
+stays_indexed s t (Some (cell.Set es)) index k h = each_stays s t k es index h
 stays_indexed s t _ index k h = tt
 
 within_rows : (indexes : Indexes) (at : ℕ) (index : List (List Atom)) → index_at indexes at ≡ Some index → at < length indexes
@@ -203,9 +204,23 @@ within_rows [] at index h = cc
 within_rows (r ∷ indexes) zero index h = omega arith
 within_rows (r ∷ indexes) (suc at) index h = let k : at < length indexes = within_rows indexes at index h in omega arith
 
--- if strings, tuples and structs stay, and so do the dictionaries that may have an index, indexes stay right
-pub still_indexed : (s t : Store) (indexes : Indexes) → AreIndexed s indexes → Stays s t → ((at : ℕ) (es : List (Value × Value)) → at < length s.cells → cell_at t.cells at ≡ Some (cell.Dict es) → cell_at s.cells at ≡ Some (cell.Dict es)) → length s.cells ≤ length t.cells → AreIndexed t indexes
-still_indexed s t indexes h k d l = record { each = λ at index q. each at index q (cell_at t.cells at) refl; within = let w : length indexes ≤ length s.cells = h.within in omega arith }
+-- an index of entries
+pub indexed_entries : (s : Store) (c : Option Cell) (es : List (Value × Value)) (index : List (List Atom)) → held_entries c ≡ Some es → IsIndexed s c index → entries_by s es ≡ map Some index
+indexed_entries s (Some (cell.Dict fs)) es index e h = let same : fs ≡ es = cc in subst (λ (gs : List (Value × Value)). entries_by s gs ≡ map Some index) same h
+indexed_entries s (Some (cell.Set fs)) es index e h = let same : fs ≡ es = cc in subst (λ (gs : List (Value × Value)). entries_by s gs ≡ map Some index) same h
+indexed_entries s (Some (cell.Text t)) es index e h = cc
+indexed_entries s (Some (cell.Range r)) es index e h = cc
+indexed_entries s (Some (cell.Tuple xs)) es index e h = cc
+indexed_entries s (Some (cell.List xs)) es index e h = cc
+indexed_entries s (Some (cell.Func f)) es index e h = cc
+indexed_entries s (Some (cell.Frame f)) es index e h = cc
+indexed_entries s (Some (cell.Bound m v)) es index e h = cc
+indexed_entries s (Some (cell.Struct fs)) es index e h = cc
+indexed_entries s None es index e h = cc
+
+-- if strings, tuples and structs stay, and so do the dictionaries and sets that may have an index, indexes stay right
+pub still_indexed : (s t : Store) (indexes : Indexes) → AreIndexed s indexes → Stays s t → ((at : ℕ) (es : List (Value × Value)) → at < length s.cells → cell_at t.cells at ≡ Some (cell.Dict es) → cell_at s.cells at ≡ Some (cell.Dict es)) → ((at : ℕ) (es : List (Value × Value)) → at < length s.cells → cell_at t.cells at ≡ Some (cell.Set es) → cell_at s.cells at ≡ Some (cell.Set es)) → length s.cells ≤ length t.cells → AreIndexed t indexes
+still_indexed s t indexes h k d m l = record { each = λ at index q. each at index q (cell_at t.cells at) refl; within = let w : length indexes ≤ length s.cells = h.within in omega arith }
   where
     each : (at : ℕ) (index : List (List Atom)) → index_at indexes at ≡ Some index → (c : Option Cell) → cell_at t.cells at ≡ c → IsIndexed t c index
     each at index q (Some (cell.Dict es)) e =
@@ -213,6 +228,11 @@ still_indexed s t indexes h k d l = record { each = λ at index q. each at index
         let w : length indexes ≤ length s.cells = h.within in
         stays_indexed s t (Some (cell.Dict es)) index k
         (subst (λ (c : Option Cell). IsIndexed s c index) (d at es (omega arith) e) (h.each at index q))
+    each at index q (Some (cell.Set es)) e =
+        let r : at < length indexes = within_rows indexes at index q in
+        let w : length indexes ≤ length s.cells = h.within in
+        stays_indexed s t (Some (cell.Set es)) index k
+        (subst (λ (c : Option Cell). IsIndexed s c index) (m at es (omega arith) e) (h.each at index q))
     each at index q (Some (cell.Text t)) e = tt
     each at index q (Some (cell.Range r)) e = tt
     each at index q (Some (cell.Tuple xs)) e = tt
@@ -240,6 +260,7 @@ made_indexed home cells e indexes h =
     still_indexed (store home cells) (store home (cells ++ e ∷ [])) indexes h
     (record { home = refl; texts = λ at x q. kept at (cell.Text x) q; tuples = λ at xs q. kept at (cell.Tuple xs) q; structs = λ at fs q. kept at (cell.Struct fs) q })
     (λ at es l q. sym (same at l) ∙ q)
+    (λ at es l q. sym (same at l) ∙ q)
     (omega (arith, length-append cells (e ∷ [])))
   where
     same : (at : ℕ) → at < length cells → cell_at (cells ++ e ∷ []) at ≡ cell_at cells at
@@ -262,15 +283,16 @@ length_changed f [] at = refl
 length_changed f (e ∷ cells) zero = refl
 length_changed f (e ∷ cells) (suc at) = ap suc (length_changed f cells at)
 
--- a string, a tuple or a struct stays, and a dictionary is not new
+-- a string, a tuple or a struct stays, and a dictionary or a set is not new
 pub record CellStays (c d : Option Cell) : Type 0 where
   pub texts : (x : List ℕ) → c ≡ Some (cell.Text x) → d ≡ Some (cell.Text x)
   pub tuples : (xs : List Value) → c ≡ Some (cell.Tuple xs) → d ≡ Some (cell.Tuple xs)
   pub structs : (fs : Fields) → c ≡ Some (cell.Struct fs) → d ≡ Some (cell.Struct fs)
   pub dicts : (es : List (Value × Value)) → d ≡ Some (cell.Dict es) → c ≡ Some (cell.Dict es)
+  pub sets : (es : List (Value × Value)) → d ≡ Some (cell.Set es) → c ≡ Some (cell.Set es)
 
 itself : (c : Option Cell) → CellStays c c
-itself c = record { texts = λ x h. h; tuples = λ xs h. h; structs = λ fs h. h; dicts = λ es h. h }
+itself c = record { texts = λ x h. h; tuples = λ xs h. h; structs = λ fs h. h; dicts = λ es h. h; sets = λ es h. h }
 
 pub changed_indexed : (home : ℕ) (cells : List HeapCell) (f : HeapCell → HeapCell) (at : ℕ) (indexes : Indexes) → ((e : HeapCell) → CellStays (Some e.cell) (Some (f e).cell)) → AreIndexed (record { home = home; cells = cells }) indexes → AreIndexed (record { home = home; cells = changed_at f cells at }) indexes
 unfolding store
@@ -278,13 +300,14 @@ changed_indexed home cells f at indexes one h =
     still_indexed (store home cells) (store home (changed_at f cells at)) indexes h
     (record { home = refl; texts = λ i x q. (all i).texts x q; tuples = λ i xs q. (all i).tuples xs q; structs = λ i fs q. (all i).structs fs q })
     (λ i es l q. (all i).dicts es q)
+    (λ i es l q. (all i).sets es q)
     (omega (arith, length_changed f cells at))
   where
     all : (i : ℕ) → CellStays (cell_at cells i) (cell_at (changed_at f cells at) i)
     all i = changed_by CellStays f itself one cells at i
 
 pub cell_same : (c d : Cell) → d ≡ c → CellStays (Some c) (Some d)
-cell_same c d q = record { texts = λ x h. ap Some q ∙ h; tuples = λ xs h. ap Some q ∙ h; structs = λ fs h. ap Some q ∙ h; dicts = λ es h. ap Some (sym q) ∙ h }
+cell_same c d q = record { texts = λ x h. ap Some q ∙ h; tuples = λ xs h. ap Some q ∙ h; structs = λ fs h. ap Some q ∙ h; dicts = λ es h. ap Some (sym q) ∙ h; sets = λ es h. ap Some (sym q) ∙ h }
 
 pub opened_stays : (e : HeapCell) → CellStays (Some e.cell) (Some (opened_in e).cell)
 opened_stays e = cell_same e.cell (opened_in e).cell (by (is_container e.cell))
@@ -301,12 +324,13 @@ closed_stays e = cell_same e.cell (closed_in e).cell (by (is_container e.cell))
     by false = refl
 
 bound_cell_stays : (slot : ℕ) (v : Value) (c : Cell) → CellStays (Some c) (Some (bound_cell slot v c))
-bound_cell_stays slot v (cell.Frame f) = record { texts = λ x h. cc; tuples = λ xs h. cc; structs = λ fs h. cc; dicts = λ es h. cc }
+bound_cell_stays slot v (cell.Frame f) = record { texts = λ x h. cc; tuples = λ xs h. cc; structs = λ fs h. cc; dicts = λ es h. cc; sets = λ es h. cc }
 bound_cell_stays slot v (cell.Text t) = itself (Some (cell.Text t))
 bound_cell_stays slot v (cell.Range r) = itself (Some (cell.Range r))
 bound_cell_stays slot v (cell.Tuple xs) = itself (Some (cell.Tuple xs))
 bound_cell_stays slot v (cell.List xs) = itself (Some (cell.List xs))
 bound_cell_stays slot v (cell.Dict es) = itself (Some (cell.Dict es))
+bound_cell_stays slot v (cell.Set es) = itself (Some (cell.Set es))
 bound_cell_stays slot v (cell.Func f) = itself (Some (cell.Func f))
 bound_cell_stays slot v (cell.Bound m w) = itself (Some (cell.Bound m w))
 bound_cell_stays slot v (cell.Struct fs) = itself (Some (cell.Struct fs))
@@ -370,6 +394,14 @@ cell_follows s c at atoms (Some (cell.Dict es)) before index x d h w q r = by (c
     by (Err f) z p = cc
     by (Ok y) z p =
         let shape : cell.Dict y.1 ≡ d = second y.0 x (cell.Dict y.1) d (cc) in
+        let done : change_entries c at es ≡ Ok (y.0, y.1) = z in
+        subst (λ (e : Cell). IsIndexed s (Some e) index) shape (entries_follow (key_entry s) c at atoms es before index y.0 y.1 h done q r)
+cell_follows s c at atoms (Some (cell.Set es)) before index x d h w q r = by (change_entries c at es) refl w
+  where
+    by : (o : Result (Option Value × List (Value × Value)) StoreFault) → change_entries c at es ≡ o → in_cell cell.Set o ≡ Ok (x, d) → IsIndexed s (Some d) index
+    by (Err f) z p = cc
+    by (Ok y) z p =
+        let shape : cell.Set y.1 ≡ d = second y.0 x (cell.Set y.1) d (cc) in
         let done : change_entries c at es ≡ Ok (y.0, y.1) = z in
         subst (λ (e : Cell). IsIndexed s (Some e) index) shape (entries_follow (key_entry s) c at atoms es before index y.0 y.1 h done q r)
 cell_follows s c at atoms (Some (cell.List xs)) before index x d h w q r = by (change_items c xs) w
@@ -491,6 +523,7 @@ finds seen key c es r e h k =
 
 pub place_either : (seen : Value → Option Cell) (key : Value) (c : Option Cell) → place_in seen (Some key) c ≡ place_of seen key (entries_of c)
 place_either seen key (Some (cell.Dict es)) = refl
+place_either seen key (Some (cell.Set es)) = refl
 place_either seen key (Some (cell.Text t)) = refl
 place_either seen key (Some (cell.Range r)) = refl
 place_either seen key (Some (cell.Tuple xs)) = refl
@@ -580,6 +613,7 @@ compared f None = answer true
 -- the value at the place of a key is the key's
 pub value_found : (seen : Value → Option Cell) (key : Value) (c : Option Cell) (place : Option ℕ) → Places seen key c place → value_at (entries_of c) place ≡ value_of seen key (entries_of c)
 value_found seen key (Some (cell.Dict es)) place h = ap (value_at es) (h es refl)
+value_found seen key (Some (cell.Set es)) place h = ap (value_at es) (h es refl)
 value_found seen key (Some (cell.Text t)) place h = nothing seen key place
 value_found seen key (Some (cell.Range t)) place h = nothing seen key place
 value_found seen key (Some (cell.Tuple t)) place h = nothing seen key place

@@ -9,12 +9,12 @@ use Rattle.star_store.specs.declared.content.Atom.TheVariants as atom
 use Rattle.star_store.specs.declared.content.Scalar.{Scalar}
 use Rattle.star_store.specs.declared.content.Scalar.TheVariants as scalar
 use Rattle.star_store.specs.Content.{atom_in, content, only_atom, same_content}
-use Rattle.star_store.specs.Index.{Covers, IsIndexed, IsKnown, Shows, TextPlaces, key_entry, place_by, place_told}
+use Rattle.star_store.specs.Index.{Covers, IsKnown, Shows, TextPlaces, entries_by, key_entry, place_by, place_told}
 use Rattle.star_store.specs.Key.{is_text, is_text_cell, key_levels, text_place}
 use Rattle.star_store.specs.Scalars.{is_only, scalar_atom}
 use Rattle.star_store.specs.Store.{Store}
 use Rattle.star_store.proofs.Far.{entry_tells, has_key, near_place, near_text}
-use Rattle.star_store.proofs.Indexes.{alike}
+use Rattle.star_store.proofs.Indexes.{alike, indexed_entries}
 use Rattle.star_store.proofs.Walks.{scalar_content}
 
 cell_text : (text : Bor (List ℕ)) (c : Option Cell) → is_only (scalar.Text text) (atom_in c) ≡ is_text_cell text.now c
@@ -28,6 +28,7 @@ cell_text text (Some (cell.Func f)) = refl
 cell_text text (Some (cell.Frame f)) = refl
 cell_text text (Some (cell.Bound m x)) = refl
 cell_text text (Some (cell.Struct fs)) = refl
+cell_text text (Some (cell.Set es)) = refl
 
 -- a scalar that is a string is the one atom of the strings of its bytes
 only_text : (look : Value → Option Cell) (text : Bor (List ℕ)) (v : Value) → is_only (scalar.Text text) (only_atom look v) ≡ is_text look text.now v
@@ -58,7 +59,7 @@ entries_have s look h text (x ∷ es) (k ∷ index) e =
 -- a string is at the place in an index that it has among the entries
 pub text_told : (look : Value → Option Cell) (text : Bor (List ℕ)) (c : Option Cell) (index : List (List Atom)) → IsKnown look c index → TextPlaces look text.now c (place_told look (text_atoms text.now) index)
 text_told look text c index k es e =
-    let right : IsIndexed k.of (Some (cell.Dict es)) index = subst (λ (d : Option Cell). IsIndexed k.of d index) e k.indexed in
+    let right : entries_by k.of es ≡ map Some index = indexed_entries k.of c es index e k.indexed in
     alike (has_key look (text_atoms text.now)) (λ d. is_text look text.now d.0) index es (entries_have k.of look k.shows text es index right)
 
 pub text_near : (look : Value → Option Cell) (text : Bor (List ℕ)) (c : Option Cell) (index : List (List Atom)) → IsKnown look c index → Covers [] index → TextPlaces look text.now c (place_by (text_atoms text.now) index)

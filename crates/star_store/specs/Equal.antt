@@ -56,7 +56,8 @@ abbrev pub same_fields : (Value → Value → Spend Bool) → Fields → Fields 
 same_fields f s t =
     if same_names (names_of s) (names_of t) then same_items f (values_of s) (values_of t) else answer false
 
--- two cells, which may be one; functions and bound methods are equal if they are one cell
+-- two cells, which may be one; functions and bound methods are equal if they are one cell, sets as dictionaries whose
+-- values are all None
 abbrev pub same_cells : (Value → Option Cell) → (Value → Value → Spend Bool) → Bool → Option Cell → Option Cell
     → Spend Bool
 same_cells look f one (Some (cell.Text t)) (Some (cell.Text u)) = answer (pointwise nat_eq t u)
@@ -64,6 +65,7 @@ same_cells look f one (Some (cell.Range r)) (Some (cell.Range s)) = answer (same
 same_cells look f one (Some (cell.Tuple xs)) (Some (cell.Tuple ys)) = same_items f xs ys
 same_cells look f one (Some (cell.List xs)) (Some (cell.List ys)) = same_items f xs ys
 same_cells look f one (Some (cell.Dict xs)) (Some (cell.Dict ys)) = same_entries look f xs ys
+same_cells look f one (Some (cell.Set xs)) (Some (cell.Set ys)) = same_entries look f xs ys
 same_cells look f one (Some (cell.Func g)) (Some (cell.Func h)) = answer one
 same_cells look f one (Some (cell.Bound m x)) (Some (cell.Bound n y)) = answer one
 same_cells look f one (Some (cell.Struct s)) (Some (cell.Struct t)) = same_fields f s t

@@ -1,4 +1,4 @@
--- Indexes of dictionaries: the contents of the keys, in order, which tell the place of a key at once.
+-- Indexes of dictionaries and sets: the contents of the keys, in order, which tell the place of a key at once.
 use Rattle.std.specs.Prelude.{◌≡◌, ◌⊎◌, ℕ, nat_eq, ◌≤◌, if◌then◌else◌, Bool, true, false, ◌||◌, List, [], ◌∷◌, ◌++◌, length, map, Option, Some, None, slice_get, position, option_and_then}
 use Rattle.std.specs.List.{list_all, list_any, remove}
 use Rattle.std.specs.Option.{option_map, option_flatten}
@@ -32,18 +32,25 @@ key_entry s v = content (alone s) key_levels v
 abbrev pub entries_by : Store → List (Value × Value) → List (Option (List Atom))
 entries_by s es = map (λ e. key_entry s e.0) es
 
--- An index of a dictionary has its keys' contents or numbers, in order. A cell that is not a dictionary needs none.
+-- An index of a dictionary or a set has its keys' contents or numbers, in order. Another cell needs none.
 abbrev pub IsIndexed : Store → Option Cell → List (List Atom) → Type 0
 IsIndexed s (Some (cell.Dict es)) index = entries_by s es ≡ map Some index
+IsIndexed s (Some (cell.Set es)) index = entries_by s es ≡ map Some index
 IsIndexed s _ index = Unit {0}
 
 -- the place of a content in an index
 abbrev pub place_by : List Atom → List (List Atom) → Option ℕ
 place_by atoms index = position (pointwise same_atom atoms) index
 
--- a place is the place of a key in a dictionary
+-- the entries of a dictionary, and the elements of a set, each with None
+abbrev pub held_entries : Option Cell → Option (List (Value × Value))
+held_entries (Some (cell.Dict es)) = Some es
+held_entries (Some (cell.Set es)) = Some es
+held_entries _ = None
+
+-- a place is the place of a key in a dictionary or a set
 abbrev pub Places : (Value → Option Cell) → Value → Option Cell → Option ℕ → Type 0
-Places look key c place = (es : List (Value × Value)) → c ≡ Some (cell.Dict es) → place ≡ place_of look key es
+Places look key c place = (es : List (Value × Value)) → held_entries c ≡ Some es → place ≡ place_of look key es
 
 -- whether an index has, under the number of a value, a key of this content
 abbrev pub is_far : (Value → Option Cell) → List Atom → List Atom → Bool
@@ -100,9 +107,10 @@ pub record AreIndexed (s : Store) (indexes : Indexes) : Type 0 where
       → IsIndexed s (cell_at s.cells at) index
   pub within : length indexes ≤ length s.cells
 
--- the entries of a dictionary, and none of another cell
+-- the entries of a dictionary or a set, and none of another cell
 abbrev pub entries_of : Option Cell → List (Value × Value)
 entries_of (Some (cell.Dict es)) = es
+entries_of (Some (cell.Set es)) = es
 entries_of _ = []
 
 -- the index of a dictionary after a change, if there is one: a new key's content comes after all others
@@ -139,4 +147,4 @@ value_at es place = option_and_then (λ i. option_map (λ e. e.1) (slice_get es 
 
 -- a place is that of a string in a dictionary
 abbrev pub TextPlaces : (Value → Option Cell) → List ℕ → Option Cell → Option ℕ → Type 0
-TextPlaces look t c place = (es : List (Value × Value)) → c ≡ Some (cell.Dict es) → place ≡ text_place look t es
+TextPlaces look t c place = (es : List (Value × Value)) → held_entries c ≡ Some es → place ≡ text_place look t es

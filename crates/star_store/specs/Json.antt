@@ -13,7 +13,7 @@ use Rattle.star_store.specs.declared.layout.Layout.TheVariants as layout
 use Rattle.star_store.specs.Fields.{Fields, is_before}
 use Rattle.star_store.specs.Sorting.{in_order}
 use Rattle.star_store.specs.Spend.{Lacks, refuse, visited}
-use Rattle.star_store.specs.Text.{Say, all_said, say, say_item, then_say}
+use Rattle.star_store.specs.Text.{Say, all_said, say, say_element, say_item, then_say}
 
 -- a text this many times
 abbrev pub times : ℕ → List ℕ → List ℕ
@@ -54,6 +54,19 @@ put_array l depth f xs =
     then_say (say (codes "["))
     (then_say (put_items l (depth + 1) f xs) (say (closing l depth (length xs) ++ codes "]")))
 
+-- an element of a set at a place
+abbrev pub put_nth : Layout → ℕ → (Value → Say) → List (Value × Value) → ℕ → Say
+put_nth l depth f es i = then_say (say (comma i ++ line l depth)) (say_element f (slice_get es i))
+
+abbrev pub put_elements : Layout → ℕ → (Value → Say) → List (Value × Value) → Say
+put_elements l depth f es = all_said (put_nth l depth f es) (length es) 0
+
+-- the elements of a set between brackets
+abbrev pub put_set : Layout → ℕ → (Value → Say) → List (Value × Value) → Say
+put_set l depth f es =
+    then_say (say (codes "["))
+    (then_say (put_elements l (depth + 1) f es) (say (closing l depth (length es) ++ codes "]")))
+
 -- a name, a colon and a value
 abbrev pub put_named : Layout → (Value → Say) → Option (List ℕ × Value) → Say
 put_named l f (Some e) = then_say (say (quoted e.0 ++ colon l)) (f e.1)
@@ -90,13 +103,14 @@ abbrev pub put_dict : Layout → ℕ → (Value → Say) → Option Fields → S
 put_dict l depth f (Some fs) = put_object l depth f fs
 put_dict l depth f None = λ out. refuse BadType
 
--- a string; lists and tuples as arrays; structs, and dictionaries whose keys are all strings, as objects
+-- a string; lists, tuples and sets as arrays; structs, and dictionaries whose keys are all strings, as objects
 abbrev pub put_cell : (Value → Option Cell) → Layout → ℕ → (ℕ → Value → Say) → Option Cell → Say
 put_cell look l depth f (Some (cell.Text t)) = say (quoted t)
 put_cell look l depth f (Some (cell.Tuple xs)) = put_array l depth (f (depth + 1)) xs
 put_cell look l depth f (Some (cell.List xs)) = put_array l depth (f (depth + 1)) xs
 put_cell look l depth f (Some (cell.Dict es)) = put_dict l depth (f (depth + 1)) (members look es)
 put_cell look l depth f (Some (cell.Struct fs)) = put_object l depth (f (depth + 1)) fs
+put_cell look l depth f (Some (cell.Set es)) = put_set l depth (f (depth + 1)) es
 put_cell look l depth f _ = λ out. refuse BadType
 
 abbrev pub bool_word : Bool → List ℕ

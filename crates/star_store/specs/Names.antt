@@ -4,6 +4,8 @@ use Rattle.star_store.specs.declared.names.BuiltIn.{BuiltIn}
 use Rattle.star_store.specs.declared.names.BuiltIn.TheVariants as built_in
 use Rattle.star_store.specs.declared.names.Method.{Method}
 use Rattle.star_store.specs.declared.names.Method.TheVariants as method
+use Rattle.star_store.specs.declared.names.SetMethod.{SetMethod}
+use Rattle.star_store.specs.declared.names.SetMethod.TheVariants as set_method
 use Rattle.star_strings.specs.Table as strings
 
 -- the place among the built-in functions: those of the core, those of the extended language, and the members of `json`,
@@ -37,10 +39,11 @@ built_in_number built_in.Hasattr = 24
 built_in_number built_in.Hash = 25
 built_in_number built_in.Json = 26
 built_in_number built_in.Ord = 27
-built_in_number built_in.Struct = 28
-built_in_number built_in.JsonDecode = 29
-built_in_number built_in.JsonEncode = 30
-built_in_number built_in.JsonEncodeIndent = 31
+built_in_number built_in.Set = 28
+built_in_number built_in.Struct = 29
+built_in_number built_in.JsonDecode = 30
+built_in_number built_in.JsonEncode = 31
+built_in_number built_in.JsonEncodeIndent = 32
 
 -- the name of a built-in function
 abbrev pub built_in_name : BuiltIn → List ℕ
@@ -72,6 +75,7 @@ built_in_name built_in.Hasattr = codes "hasattr"
 built_in_name built_in.Hash = codes "hash"
 built_in_name built_in.Json = codes "json"
 built_in_name built_in.Ord = codes "ord"
+built_in_name built_in.Set = codes "set"
 built_in_name built_in.Struct = codes "struct"
 built_in_name built_in.JsonDecode = codes "json.decode"
 built_in_name built_in.JsonEncode = codes "json.encode"
@@ -81,6 +85,25 @@ built_in_name built_in.JsonEncodeIndent = codes "json.encode_indent"
 abbrev pub is_function : BuiltIn → Bool
 is_function built_in.Json = false
 is_function _ = true
+
+-- the name of a method of sets
+abbrev pub set_method_name : SetMethod → List ℕ
+set_method_name set_method.Add = codes "add"
+set_method_name set_method.Clear = codes "clear"
+set_method_name set_method.Difference = codes "difference"
+set_method_name set_method.DifferenceUpdate = codes "difference_update"
+set_method_name set_method.Discard = codes "discard"
+set_method_name set_method.Intersection = codes "intersection"
+set_method_name set_method.IntersectionUpdate = codes "intersection_update"
+set_method_name set_method.Isdisjoint = codes "isdisjoint"
+set_method_name set_method.Issubset = codes "issubset"
+set_method_name set_method.Issuperset = codes "issuperset"
+set_method_name set_method.Pop = codes "pop"
+set_method_name set_method.Remove = codes "remove"
+set_method_name set_method.SymmetricDifference = codes "symmetric_difference"
+set_method_name set_method.SymmetricDifferenceUpdate = codes "symmetric_difference_update"
+set_method_name set_method.Union = codes "union"
+set_method_name set_method.Update = codes "update"
 
 -- the names of a method: the name of its receiver's type, and its own
 abbrev pub method_names : Method → List ℕ × List ℕ
@@ -113,6 +136,7 @@ method_names method.StringStartswith = (codes "string", codes "startswith")
 method_names method.StringStrip = (codes "string", codes "strip")
 method_names method.StringUpper = (codes "string", codes "upper")
 method_names (method.OfString m) = (codes "string", strings.method_name m)
+method_names (method.OfSet m) = (codes "set", set_method_name m)
 
 abbrev pub receiver_type : Method → List ℕ
 receiver_type m = (method_names m).0

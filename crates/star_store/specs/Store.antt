@@ -76,13 +76,14 @@ slot_value _ slot = None
 abbrev pub bound : Value → ℕ → Value → Store → Store
 bound frame slot v s = changed (λ e. record e { cell = bound_cell slot v e.cell }) frame s
 
--- whether a cell is a list or a dictionary
+-- whether a cell is a list, a dictionary or a set
 abbrev pub is_container : Cell → Bool
 is_container (cell.List xs) = true
 is_container (cell.Dict es) = true
+is_container (cell.Set es) = true
 is_container _ = false
 
--- one iteration more is open, if the cell is a list or a dictionary
+-- one iteration more is open, if the cell is a list, a dictionary or a set
 abbrev pub opened_in : HeapCell → HeapCell
 opened_in e = if is_container e.cell then record e { iterations = e.iterations + 1 } else e
 
@@ -90,7 +91,7 @@ opened_in e = if is_container e.cell then record e { iterations = e.iterations +
 abbrev pub closed_in : HeapCell → HeapCell
 closed_in e = if is_container e.cell then record e { iterations = e.iterations - 1 } else e
 
--- opens an iteration of a list or dictionary of the module's own
+-- opens an iteration of a list, dictionary or set of the module's own
 abbrev pub opened : Value → Store → Store
 opened v s = changed opened_in v s
 
@@ -98,12 +99,12 @@ opened v s = changed opened_in v s
 abbrev pub closed : Value → Store → Store
 closed v s = changed closed_in v s
 
--- the iterations that are open on a list or a dictionary
+-- the iterations that are open on a list, a dictionary or a set
 abbrev pub iterations_in : Option HeapCell → ℕ
 iterations_in None = 0
 iterations_in (Some e) = if is_container e.cell then e.iterations else 0
 
--- the iterations that are open on a list or dictionary of the module's own
+-- the iterations that are open on a list, dictionary or set of the module's own
 abbrev pub iterations_of : Store → Value → ℕ
 iterations_of s (value.Ref home at) = if nat_eq home s.home then iterations_in (slice_get s.cells at) else 0
 iterations_of s _ = 0

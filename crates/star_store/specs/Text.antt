@@ -131,6 +131,19 @@ say_entry f es i = then_say (say (separator i)) (say_pair f (slice_get es i))
 abbrev pub say_entries : (Value → Say) → List (Value × Value) → Say
 say_entries f es = all_said (say_entry f es) (length es) 0
 
+-- an element of a set, which is an entry without a value
+abbrev pub say_element : (Value → Say) → Option (Value × Value) → Say
+say_element f (Some e) = f e.0
+say_element f None = say []
+
+-- the element at a place
+abbrev pub say_nth : (Value → Say) → List (Value × Value) → ℕ → Say
+say_nth f es i = then_say (say (separator i)) (say_element f (slice_get es i))
+
+-- elements, with commas
+abbrev pub say_elements : (Value → Say) → List (Value × Value) → Say
+say_elements f es = all_said (say_nth f es) (length es) 0
+
 -- a tuple of one item has a comma after it
 abbrev pub tuple_end : List Value → List ℕ
 tuple_end xs = if nat_eq (length xs) 1 then codes ",)" else codes ")"
@@ -165,6 +178,10 @@ say_tuple f xs = then_say (say (codes "(")) (then_say (say_items f xs) (say (tup
 abbrev pub say_new_list : (Value → Say) → List Value → Say
 say_new_list f xs = then_say (say (codes "[")) (then_say (say_items f xs) (say (codes "]")))
 
+-- a set, in which no list, dictionary or set can be
+abbrev pub say_set : (Value → Say) → List (Value × Value) → Say
+say_set f es = then_say (say (codes "set([")) (then_say (say_elements f es) (say (codes "])")))
+
 abbrev pub say_new_dict : (Value → Say) → List (Value × Value) → Say
 say_new_dict f es = then_say (say (codes "{")) (then_say (say_entries f es) (say (codes "}")))
 
@@ -189,6 +206,7 @@ say_cell f path v (Some (cell.Func g)) = say_parts (function_parts g.name)
 say_cell f path v (Some (cell.Frame g)) = say []
 say_cell f path v (Some (cell.Bound m x)) = say_parts (method_parts m)
 say_cell f path v (Some (cell.Struct fs)) = say_struct (f path) fs
+say_cell f path v (Some (cell.Set es)) = say_set (f path) es
 say_cell f path v None = say []
 
 abbrev pub say_value : (Value → Option Cell) → (List Value → Value → Say) → List Value → Value → Say

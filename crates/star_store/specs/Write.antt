@@ -1,4 +1,4 @@
--- Writes: which are allowed, and the list or dictionary after each change.
+-- Writes: which are allowed, and the list, dictionary or set after each change. A set is written as a dictionary.
 use Rattle.std.specs.Prelude.{◌≡◌, ℕ, nat_eq, nat_lt, Bool, true, false, List, [], ◌∷◌, ◌++◌, length, Option, Some, None, slice_get, slice_set, Result, Ok, Err, if◌then◌else◌}
 use Rattle.std.specs.List.{insert, remove}
 use Rattle.std.specs.Option.{option_map}
@@ -23,7 +23,7 @@ is_own s _ = false
 abbrev pub may_change : Store → Value → Result (Unit {0}) StoreFault
 may_change s v = if is_own s v then (if nat_eq (iterations_of s v) 0 then Ok tt else Err Iterating) else Err Frozen
 
--- whether a value leads to a list or a dictionary
+-- whether a value leads to a list, a dictionary or a set
 abbrev pub leads_to_container : Option Cell → Bool
 leads_to_container (Some c) = is_container c
 leads_to_container None = false
@@ -46,6 +46,7 @@ suits_dict _ = false
 abbrev pub suits : Change → Option Cell → Bool
 suits c (Some (cell.List xs)) = suits_list c
 suits c (Some (cell.Dict es)) = suits_dict c
+suits c (Some (cell.Set es)) = suits_dict c
 suits c _ = false
 
 -- the key of a change
@@ -59,9 +60,10 @@ abbrev pub is_good_key : (Value → Option Cell) → Option Value → Bool
 is_good_key look None = true
 is_good_key look (Some k) = is_key look key_levels k
 
--- the place of a key in a dictionary
+-- the place of a key in a dictionary or a set
 abbrev pub place_in : (Value → Option Cell) → Option Value → Option Cell → Option ℕ
 place_in look (Some k) (Some (cell.Dict es)) = place_of look k es
+place_in look (Some k) (Some (cell.Set es)) = place_of look k es
 place_in look _ _ = None
 
 -- an answer is the value that was replaced or taken out, and the items or entries that are left
@@ -113,6 +115,7 @@ in_cell f (Err e) = Err e
 abbrev pub change_cell : Change → Option ℕ → Option Cell → Result (Option Value × Cell) StoreFault
 change_cell c place (Some (cell.List xs)) = in_cell cell.List (change_items c xs)
 change_cell c place (Some (cell.Dict es)) = in_cell cell.Dict (change_entries c place es)
+change_cell c place (Some (cell.Set es)) = in_cell cell.Set (change_entries c place es)
 change_cell c place _ = Err BadType
 
 -- the cell at an address

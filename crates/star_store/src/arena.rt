@@ -181,7 +181,7 @@ impl Arena {
         let home = self.home;
         let at = self.cells.len() as u32;
         let entry_count = match &cell {
-            Cell::Dict(entries) => entries.len(),
+            Cell::Dict(entries) | Cell::Set(entries) => entries.len(),
             _ => 0,
         };
         self.cells.push(HeapCell {
@@ -425,5 +425,5 @@ fn close_in(counted: &mut HeapCell)
 fn is_container(cell: &Cell) -> bool
     ensures { result ≡ is_container cell.now }
 {
-    matches!(cell, Cell::List(_) | Cell::Dict(_))
+    matches!(cell, Cell::List(_) | Cell::Dict(_) | Cell::Set(_))
 }

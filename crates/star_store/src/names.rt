@@ -4,7 +4,7 @@
 //! `list.clear` and `dict.clear` are two.
 
 ghost use Rattle.std.specs.Prelude.{◌≡◌};
-ghost use Rattle.star_store.specs.Names.{built_in_name, built_in_number, is_function, method_name, receiver_type};
+ghost use Rattle.star_store.specs.Names.{built_in_name, built_in_number, is_function, method_name, receiver_type, set_method_name};
 
 use star_strings::table::StringMethod;
 
@@ -41,6 +41,7 @@ pub enum BuiltIn {
     /// The module `json`: the only one here that is no function.
     Json,
     Ord,
+    Set,
     Struct,
     /// From here on the members of `json`.
     JsonDecode,
@@ -81,6 +82,29 @@ pub enum Method {
     StringUpper,
     /// A method of the table of `star_strings`.
     OfString(StringMethod),
+    /// A method of sets.
+    OfSet(SetMethod),
+}
+
+/// A method of sets.
+#[derive(Clone, Copy, Debug, PartialEq, Eq)]
+pub enum SetMethod {
+    Add,
+    Clear,
+    Difference,
+    DifferenceUpdate,
+    Discard,
+    Intersection,
+    IntersectionUpdate,
+    Isdisjoint,
+    Issubset,
+    Issuperset,
+    Pop,
+    Remove,
+    SymmetricDifference,
+    SymmetricDifferenceUpdate,
+    Union,
+    Update,
 }
 
 impl BuiltIn {
@@ -132,6 +156,7 @@ impl BuiltIn {
             BuiltIn::Hash => "hash",
             BuiltIn::Json => "json",
             BuiltIn::Ord => "ord",
+            BuiltIn::Set => "set",
             BuiltIn::Struct => "struct",
             BuiltIn::JsonDecode => "json.decode",
             BuiltIn::JsonEncode => "json.encode",
@@ -176,6 +201,7 @@ impl Method {
             Method::StringStrip => ("string", "strip"),
             Method::StringUpper => ("string", "upper"),
             Method::OfString(method) => ("string", method.name()),
+            Method::OfSet(method) => ("set", method.name()),
         }
     }
 
@@ -191,5 +217,31 @@ impl Method {
         ensures { result.now ≡ receiver_type self }
     {
         self.names().0
+    }
+}
+
+impl SetMethod {
+    /// Its name.
+    pub fn name(self) -> &'static str
+        ensures { result.now ≡ set_method_name self }
+    {
+        match self {
+            SetMethod::Add => "add",
+            SetMethod::Clear => "clear",
+            SetMethod::Difference => "difference",
+            SetMethod::DifferenceUpdate => "difference_update",
+            SetMethod::Discard => "discard",
+            SetMethod::Intersection => "intersection",
+            SetMethod::IntersectionUpdate => "intersection_update",
+            SetMethod::Isdisjoint => "isdisjoint",
+            SetMethod::Issubset => "issubset",
+            SetMethod::Issuperset => "issuperset",
+            SetMethod::Pop => "pop",
+            SetMethod::Remove => "remove",
+            SetMethod::SymmetricDifference => "symmetric_difference",
+            SetMethod::SymmetricDifferenceUpdate => "symmetric_difference_update",
+            SetMethod::Union => "union",
+            SetMethod::Update => "update",
+        }
     }
 }

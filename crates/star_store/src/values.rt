@@ -1,4 +1,4 @@
-//! `Value`, and the cells that values lead to: strings, ranges, tuples, lists, dictionaries, functions, frames,
+//! `Value`, and the cells that values lead to: strings, ranges, tuples, lists, dictionaries, sets, functions, frames,
 //! methods, structs.
 //!
 //! A function's cell has its name, so its text needs no program. The parent of a frame is a value, which may lead into
@@ -13,6 +13,8 @@
 
 ghost use Rattle.std.specs.Prelude.{◌≡◌, ◌<◌, ◌≤◌, List, Some, [], ◌∷◌, ◌++◌, length, slice_get, slice_set, IfOk, OnOk, OnErr};
 ghost use Rattle.std.specs.List.{insert, remove};
+ghost use Rattle.std.specs.Option.{option_copied};
+ghost use Rattle.star_store.specs.Index.{held_entries};
 
 use crate::defaults::Defaults;
 use crate::fields::Fields;
@@ -56,7 +58,7 @@ impl Model for Values {
     ghost view = { λ r. r.items };
 }
 
-/// The entries of a dictionary, in the order in which their keys were put in.
+/// The entries of a dictionary, or the elements of a set, each with None, in the order in which they were put in.
 pub struct Entries {
     pairs: FrontGapVec<(Value, Value)>,
 }
@@ -173,6 +175,7 @@ pub enum Cell {
     Frame(BoxedFrame),
     Bound(Method, Value),
     Struct(Boxed<Fields>),
+    Set(Entries),
 }
 
 impl Drop for Cell {
@@ -187,6 +190,21 @@ impl Drop for Cell {
             Cell::Frame(_) => {}
             Cell::Bound(_, _) => {}
             Cell::Struct(_) => {}
+            Cell::Set(_) => {}
+        }
+    }
+}
+
+impl Cell {
+    /// The entries of a dictionary or a set.
+    #[inline(always)]
+    pub fn entries(&self) -> Option<&Entries>
+        ensures { option_copied result ≡ held_entries (Some self.now) }
+    {
+        match self {
+            Cell::Dict(entries) => Some(entries),
+            Cell::Set(entries) => Some(entries),
+            _ => None,
         }
     }
 }
@@ -295,6 +313,15 @@ impl Entries {
         Ok(Entries {
             pairs: FrontGapVec::new(Vec::with_capacity(alloc, capacity)?),
         })
+    }
+
+    /// These entries.
+    pub fn of(pairs: Vec<(Value, Value)>) -> Entries
+        ensures { result ≡ pairs.items }
+    {
+        Entries {
+            pairs: FrontGapVec::new(pairs),
+        }
     }
 
     /// How many entries there are.

@@ -165,6 +165,7 @@ bound_visible hides slot v (cell.Range r) h c = c
 bound_visible hides slot v (cell.Tuple xs) h c = c
 bound_visible hides slot v (cell.List xs) h c = c
 bound_visible hides slot v (cell.Dict es) h c = c
+bound_visible hides slot v (cell.Set es) h c = c
 bound_visible hides slot v (cell.Func f) h c = c
 bound_visible hides slot v (cell.Bound m x) h c = c
 bound_visible hides slot v (cell.Struct fs) h c = c

@@ -25,6 +25,7 @@ use Rattle.star_unseen.specs.Veil.{AreVisible, Every, Hides, IsVisible, VisibleI
 use Rattle.star_unseen.specs.Shelves.{Veil, with_other}
 use Rattle.star_dialect.specs.declared.Dialect.{Dialect}
 use Rattle.star_dialect.specs.declared.Dialect.TheVariants as dialect
+use Rattle.star_unseen.proofs.SetMethods.{alike-call_set}
 use Rattle.star_unseen.proofs.Orders.{alike-sort_by, alike-want_reverse, visible-by_itself}
 use Rattle.star_unseen.proofs.Rows.{every_append}
 use Rattle.star_unseen.proofs.Looks.{ContentIsVisible, same_content}
@@ -312,6 +313,7 @@ alike-call_built_in k levels line built_in.Hasattr g h = alike-call_hasattr k li
 alike-call_built_in k levels line built_in.Hash g h = alike-call_hash k line g h
 alike-call_built_in k levels line built_in.Json g h = alike_fail Value (IsVisible k.hides) code.BadType line
 alike-call_built_in k levels line built_in.Ord g h = alike-call_ord k line g h
+alike-call_built_in k levels line built_in.Set g h = alike-call_set k levels line g h
 alike-call_built_in k levels line built_in.Struct g h = alike-call_struct k line g h
 alike-call_built_in k levels line built_in.JsonDecode g h = alike-call_decode k levels line g h
 alike-call_built_in k levels line built_in.JsonEncode g h = alike-call_encode k levels line g h

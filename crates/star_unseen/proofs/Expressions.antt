@@ -10,7 +10,7 @@ use Rattle.star_outline.specs.Syntax.{ExpressionForm, ParameterForm, parameter}
 use Rattle.star_meaning.specs.declared.fault.FaultCode.TheVariants as code
 use Rattle.star_meaning.specs.declared.site.Site.{Site}
 use Rattle.star_meaning.specs.Expressions.{defaults, defaults_after, entry_of, fresh_entries, fresh_entry, maybe, new_function, node}
-use Rattle.star_meaning.specs.Operators.{with_entry}
+use Rattle.star_meaning.specs.Entries.{with_entry}
 use Rattle.star_meaning.specs.Program.{Setting, Variables}
 use Rattle.star_meaning.specs.Run.{Action, check, each, give}
 use Rattle.star_meaning.specs.Semantics.{Semantics}
@@ -22,7 +22,8 @@ use Rattle.star_unseen.proofs.Calls.{alike-call_node}
 use Rattle.star_unseen.proofs.Visible.{SiteIsVisible}
 use Rattle.star_unseen.proofs.Comprehensions.{alike-dict_comprehension, alike-list_comprehension}
 use Rattle.star_unseen.proofs.Attributes.{alike-attribute}
-use Rattle.star_unseen.proofs.Operators.{alike-comparison, alike-operate, alike-prefix, visible-with_entry, same-with_entry}
+use Rattle.star_unseen.proofs.Operators.{alike-comparison, alike-operate, alike-prefix}
+use Rattle.star_unseen.proofs.Entries.{visible-with_entry, same-with_entry}
 use Rattle.star_unseen.proofs.Parts.{AllAlike, VariablesAlike, alike_every}
 use Rattle.star_unseen.proofs.Subscript.{alike-index, alike-slice}
 use Rattle.star_unseen.proofs.Values.{alike-check_key, alike-is_true, alike-new_dict, alike-new_list, alike-new_text, alike-new_tuple, same-place_in}

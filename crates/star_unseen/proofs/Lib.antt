@@ -7,6 +7,7 @@ mod Calls
 mod Comprehensions
 mod DictMethods
 mod Ended
+mod Entries
 mod Expressions
 mod Format
 mod Json
@@ -20,6 +21,8 @@ mod Parts
 mod Percent
 mod Rows
 mod Runs
+mod SetMethods
+mod Sets
 mod Statements
 mod Subscript
 mod TableMethods

@@ -15,6 +15,7 @@ use Rattle.star_unseen.proofs.Visible.{ArgumentsAreVisible}
 use Rattle.star_unseen.proofs.Alike.{Alike, alike_fail, alike_then}
 use Rattle.star_unseen.proofs.Values.{alike-want_text}
 use Rattle.star_unseen.proofs.ListMethods.{alike-call_append, alike-call_clear, alike-call_extend, alike-call_index, alike-call_insert, alike-call_pop, alike-call_remove}
+use Rattle.star_unseen.proofs.SetMethods.{alike-call_on_set}
 use Rattle.star_unseen.proofs.DictMethods.{alike-call_get, alike-call_items, alike-call_keys, alike-call_values, alike-call_dict_pop, alike-call_popitem, alike-call_setdefault, alike-call_update}
 use Rattle.star_unseen.proofs.TableMethods.{alike-call_in_table, alike-call_wider}
 use Rattle.star_unseen.proofs.TextMethods.{alike-call_edge, alike-call_find, alike-call_join, alike-call_split, alike-call_strip, alike-call_case, alike-call_replace, alike-call_format}
@@ -53,4 +54,5 @@ alike-call_method k levels line method.DictPopitem x g h l = alike-call_popitem 
 alike-call_method k levels line method.DictSetdefault x g h l = alike-call_setdefault k levels line x g h l
 alike-call_method k levels line method.DictUpdate x g h l = alike-call_update k levels line x g h l
 alike-call_method k levels line method.DictValues x g h l = alike-call_values k line x g h l
+alike-call_method k levels line (method.OfSet m) x g h l = alike-call_on_set k levels line m x g h l
 alike-call_method k levels line m x g h l = alike_then (alike-want_text k line x h) (λ t _. alike-on_text k levels line m t g l)

@@ -1,5 +1,5 @@
 -- Pairs of actions that do the same over two shelves: operators.
-use Rattle.std.proofs.Common.{◌≡◌, ℕ, zero, suc, ◌+◌, ◌*◌, ◌^◌, ◌++◌, length, List, [], ◌∷◌, Option, Some, None, is_some, Bool, true, false, not, ℤ, pos, negsuc, ◌+ℤ◌, ◌-ℤ◌, ◌*ℤ◌, neg_ℤ, slice_get, refl, ap, subst, ◌∙◌}
+use Rattle.std.proofs.Common.{ℕ, zero, suc, ◌+◌, ◌*◌, ◌^◌, ◌++◌, length, List, [], ◌∷◌, is_some, Bool, true, false, not, ℤ, pos, negsuc, ◌+ℤ◌, ◌-ℤ◌, ◌*ℤ◌, neg_ℤ, subst}
 use Rattle.std.specs.Int.{w64, int_bit_and, int_bit_or, int_bit_xor, int_bit_not}
 use Rattle.std.specs.Ordering.{int_eq, is_lt, is_gt}
 use Rattle.std.specs.declared.cmp.Ordering.{Ordering}
@@ -7,7 +7,6 @@ use Rattle.star_store.specs.declared.values.Value.{Value}
 use Rattle.star_store.specs.declared.values.Value.TheVariants as value
 use Rattle.star_store.specs.declared.values.Cell.TheVariants as cell
 use Rattle.star_store.specs.Arithmetic.{floored, floored_by, left_over}
-use Rattle.star_store.specs.Write.{put, put_at}
 use Rattle.star_tree.specs.declared.tree.UnaryOperator.{UnaryOperator}
 use Rattle.star_tree.specs.declared.tree.UnaryOperator.TheVariants as unary
 use Rattle.star_tree.specs.declared.tree.BinaryOperator.{BinaryOperator}
@@ -15,47 +14,27 @@ use Rattle.star_tree.specs.declared.tree.BinaryOperator.TheVariants as binary
 use Rattle.star_tree.specs.declared.tree.Comparator.{Comparator}
 use Rattle.star_tree.specs.declared.tree.Comparator.TheVariants as comparator
 use Rattle.star_meaning.specs.declared.fault.FaultCode.TheVariants as code
-use Rattle.star_meaning.specs.Run.{State, Action, give}
+use Rattle.star_meaning.specs.Run.{Action, give}
 use Rattle.star_meaning.specs.Program.{Setting}
 use Rattle.star_meaning.specs.Values.{Content, Number, Held, int_of, new_dict, place_in}
-use Rattle.star_meaning.specs.Operators.{times, count_from, entries_after, with_entry, with_entries, add, repeated, multiply, divide, remainder, shift_left, shift_right, union, on_ints, on_others, on_contents, operate, signed, negated, on_one, prefix, place_between, range_has_value, list_contains, has, contains, ordered, comparison_holds, comparison}
-use Rattle.star_unseen.specs.Veil.{AreVisible, Every, Hides, IsVisible, Maybe, PairIsVisible, PairsAreVisible, StateIsVisible}
+use Rattle.star_meaning.specs.Operators.{times, count_from, add, repeated, multiply, divide, remainder, shift_left, shift_right, union, on_ints, on_others, on_contents, operate, signed, negated, on_one, prefix, place_between, range_has_value, list_contains, has, contains, ordered, comparison_holds, comparison}
+use Rattle.star_meaning.specs.declared.merge.Merge.TheVariants as merge
+use Rattle.star_meaning.specs.Entries.{with_entries}
+use Rattle.star_unseen.specs.Veil.{AreVisible, Every, IsVisible, PairsAreVisible}
 use Rattle.star_unseen.specs.Shelves.{Veil, with_other}
-use Rattle.star_unseen.proofs.Rows.{every_append, every_get, every_set}
+use Rattle.star_unseen.proofs.Rows.{every_append}
 use Rattle.star_unseen.proofs.Looks.{ContentIsVisible}
 use Rattle.star_unseen.proofs.Alike.{Alike, Any, alike_content, alike_fail, alike_found, alike_give, alike_if, alike_make, alike_pay, alike_seeing, alike_then}
 use Rattle.star_unseen.proofs.Values.{any_found, alike-want_text, alike-new_int, alike-new_text, alike-new_tuple, alike-new_list, alike-new_dict, alike-is_true, alike-equal, alike-compare, alike-check_key, same-place_in}
+use Rattle.star_unseen.proofs.Entries.{visible-with_entries, same-with_entries}
 use Rattle.star_unseen.proofs.Percent.{alike-percent}
+use Rattle.star_unseen.proofs.Sets.{alike-merge_new}
 
--- ---- rows and entries
+-- ---- rows
 
 pub every_times : {A : Type 0} (P : A → Type 0) (n : ℕ) (xs : List A) → Every P xs → Every P (times n xs)
 every_times P zero xs h = tt
 every_times P (suc n) xs h = every_append P xs (times n xs) h (every_times P n xs h)
-
-visible-put_at : (hides : Hides) (i : ℕ) (v : Value) (o : Option (Value × Value)) (es : List (Value × Value)) → IsVisible hides v → Maybe (PairIsVisible hides) o → PairsAreVisible hides es → PairsAreVisible hides (entries_after es (put_at i v o es))
-visible-put_at hides i v None es h l r = r
-visible-put_at hides i v (Some e) es h l r = every_set (PairIsVisible hides) es i (e.0, v) r (l.0, h)
-
-visible-put : (hides : Hides) (key v : Value) (o : Option ℕ) (es : List (Value × Value)) → IsVisible hides key → IsVisible hides v → PairsAreVisible hides es → PairsAreVisible hides (entries_after es (put key v o es))
-visible-put hides key v None es h l r = every_append (PairIsVisible hides) es ((key, v) ∷ []) r ((h, l), tt)
-visible-put hides key v (Some i) es h l r = visible-put_at hides i v (slice_get es i) es l (every_get (PairIsVisible hides) es i r) r
-
-pub visible-with_entry : {w : Setting} (k : Veil w) (s : State) (es : List (Value × Value)) (e : Value × Value) → PairsAreVisible k.hides es → PairIsVisible k.hides e → PairsAreVisible k.hides (with_entry w s es e)
-visible-with_entry {w = w} k s es e h l = visible-put k.hides e.0 e.1 (place_in w s e.0 es) es l.0 l.1 h
-
-pub same-with_entry : {w : Setting} (k : Veil w) (s : State) (es : List (Value × Value)) (e : Value × Value) → StateIsVisible k.hides w.home s → PairsAreVisible k.hides es → PairIsVisible k.hides e → with_entry w s es e ≡ with_entry (with_other k.other w) s es e
-same-with_entry k s es e c h l = ap (λ o. entries_after es (put e.0 e.1 o es)) (same-place_in k s e.0 es c l.0 h)
-
-pub visible-with_entries : {w : Setting} (k : Veil w) (s : State) (es fs : List (Value × Value)) → PairsAreVisible k.hides es → PairsAreVisible k.hides fs → PairsAreVisible k.hides (with_entries w s es fs)
-visible-with_entries k s es [] h l = h
-visible-with_entries {w = w} k s es (f ∷ fs) h l = visible-with_entries k s (with_entry w s es f) fs (visible-with_entry k s es f h l.0) l.1
-
-pub same-with_entries : {w : Setting} (k : Veil w) (s : State) (es fs : List (Value × Value)) → StateIsVisible k.hides w.home s → PairsAreVisible k.hides es → PairsAreVisible k.hides fs → with_entries w s es fs ≡ with_entries (with_other k.other w) s es fs
-same-with_entries k s es [] c h l = refl
-same-with_entries {w = w} k s es (f ∷ fs) c h l =
-    same-with_entries k s (with_entry w s es f) fs c (visible-with_entry k s es f h l.0) l.1
-    ∙ ap (λ gs. with_entries (with_other k.other w) s gs fs) (same-with_entry k s es f c h l.0)
 
 -- ---- operators of two operands
 
@@ -114,6 +93,10 @@ alike-on_others k levels line binary.Add c d y h l r = alike-add k line c d h l
 alike-on_others k levels line binary.Multiply c d y h l r = alike-multiply k line c d h l
 alike-on_others k levels line binary.Modulo (Held (cell.Text t)) d y h l r = alike-percent k levels line t d y l r
 alike-on_others k levels line binary.BitOr (Held (cell.Dict es)) (Held (cell.Dict fs)) y h l r = alike-union k line es fs h l
+alike-on_others k levels line binary.BitOr (Held (cell.Set es)) (Held (cell.Set fs)) y h l r = alike-merge_new k levels line merge.Union es (y ∷ []) h (r, tt)
+alike-on_others k levels line binary.BitAnd (Held (cell.Set es)) (Held (cell.Set fs)) y h l r = alike-merge_new k levels line merge.Intersection es (y ∷ []) h (r, tt)
+alike-on_others k levels line binary.Subtract (Held (cell.Set es)) (Held (cell.Set fs)) y h l r = alike-merge_new k levels line merge.Difference es (y ∷ []) h (r, tt)
+alike-on_others k levels line binary.BitXor (Held (cell.Set es)) (Held (cell.Set fs)) y h l r = alike-merge_new k levels line merge.SymmetricDifference es (y ∷ []) h (r, tt)
 alike-on_others k levels line _ c d y h l r = alike_fail Value (IsVisible k.hides) code.BadType line
 
 pub alike-on_contents : {w : Setting} (k : Veil w) (levels line : ℕ) (op : BinaryOperator) (c d : Content) (v : Value) → ContentIsVisible k.hides c → ContentIsVisible k.hides d → IsVisible k.hides v → Alike k (IsVisible k.hides) (on_contents w levels line op c d v) (on_contents (with_other k.other w) levels line op c d v)
@@ -155,6 +138,10 @@ pub alike-has : {w : Setting} (k : Veil w) (levels line : ℕ) (c : Content) (x 
 alike-has k levels line (Held (cell.List ys)) x h l = alike-list_contains k levels line ys x h l
 alike-has k levels line (Held (cell.Tuple ys)) x h l = alike-list_contains k levels line ys x h l
 alike-has {w = w} k levels line (Held (cell.Dict es)) x h l =
+    alike_then (alike-check_key k levels line x l) (λ _ _. alike_seeing {A = Bool} Any _ _ (λ s c.
+    subst (λ o. Alike {A = Bool} k Any (give (is_some (place_in w s x es))) (give (is_some o))) (same-place_in k s x es c l h)
+    (alike_give Any (is_some (place_in w s x es)) tt)))
+alike-has {w = w} k levels line (Held (cell.Set es)) x h l =
     alike_then (alike-check_key k levels line x l) (λ _ _. alike_seeing {A = Bool} Any _ _ (λ s c.
     subst (λ o. Alike {A = Bool} k Any (give (is_some (place_in w s x es))) (give (is_some o))) (same-place_in k s x es c l h)
     (alike_give Any (is_some (place_in w s x es)) tt)))

@@ -7,7 +7,7 @@ use Rattle.star_meaning.specs.declared.given.KeywordArgument.{KeywordArgument}
 use Rattle.star_meaning.specs.Run.{Action, give}
 use Rattle.star_meaning.specs.Program.{Setting}
 use Rattle.star_meaning.specs.Values.{Content, Held, Nowhere}
-use Rattle.star_meaning.specs.Operators.{with_entry}
+use Rattle.star_meaning.specs.Entries.{with_entry}
 use Rattle.star_meaning.specs.Pairs.{Pairs, two_items, pair_of, taken_entries, pairs_in, pairs_of, pairs_count, check_pair, put_pair, put_named, put_pairs, with_pair, with_pairs, with_named, dict_of, update_with}
 use Rattle.star_unseen.specs.Veil.{AreVisible, Hides, IsVisible, VisibleIfThere, PairIsVisible, PairsAreVisible}
 use Rattle.star_unseen.specs.Shelves.{Veil, with_other}
@@ -17,7 +17,7 @@ use Rattle.star_unseen.proofs.Alike.{Alike, Any, alike_all_of, alike_content, al
 use Rattle.star_unseen.proofs.Values.{alike-check_key, alike-count_of, alike-new_dict, alike-take_all, alike-take_items}
 use Rattle.star_unseen.proofs.Subscript.{alike-put_entry}
 use Rattle.star_unseen.proofs.Arguments.{alike-key_for}
-use Rattle.star_unseen.proofs.Operators.{visible-with_entry, same-with_entry}
+use Rattle.star_unseen.proofs.Entries.{visible-with_entry, same-with_entry}
 
 -- pairs that lead to nothing hidden
 abbrev pub ThePairsAreVisible : Hides → Pairs → Type 0

@@ -18,6 +18,7 @@ use Rattle.star_scope.specs.declared.placement.StatementContext.{StatementContex
 use Rattle.star_scope.specs.Placement.{in_arms, in_statements, of_if, of_loop, only}
 use Rattle.star_scope.proofs.Placements.{arms_next}
 use Rattle.star_outline.specs.Syntax.{StatementForm, TargetForm, target}
+use Rattle.star_meaning.specs.declared.merge.Merge.TheVariants as merge
 use Rattle.star_meaning.specs.declared.fault.FaultCode.TheVariants as code
 use Rattle.star_meaning.specs.declared.site.Flow.{Flow}
 use Rattle.star_meaning.specs.declared.site.Flow.TheVariants as flow
@@ -37,6 +38,7 @@ use Rattle.star_unseen.proofs.Looks.{ContentIsVisible}
 use Rattle.star_unseen.proofs.Operators.{alike-operate}
 use Rattle.star_unseen.proofs.Pairs.{alike-update_with}
 use Rattle.star_unseen.proofs.Parts.{AllAlike, FormIsPlaced, IsPlaced, VariablesAlike, left_none, placed_inside, right_none}
+use Rattle.star_unseen.proofs.Sets.{alike-augment_set}
 use Rattle.star_unseen.proofs.Subscript.{alike-set_index}
 use Rattle.star_unseen.proofs.Targets.{alike-to_target}
 use Rattle.star_unseen.proofs.Values.{alike-is_true, alike-iterate, alike-take_item}
@@ -49,6 +51,10 @@ pub alike-augment_content : {w : Setting} (k : Veil w) (levels line : ℕ) (op :
 alike-augment_content k levels line binary.Add x y (Held (cell.List xs)) h i c = alike_then (alike-extend k line x y h i) (λ _ _. alike_give (IsVisible k.hides) x h)
 alike-augment_content {w = w} k levels line binary.BitOr x y (Held (cell.Dict es)) h i c =
     alike_then (alike-update_with k levels line x (Some y) [] (guard w line x) (guard (with_other k.other w) line x) h i tt (alike-guard k line x h)) (λ _ _. alike_give (IsVisible k.hides) x h)
+alike-augment_content k levels line binary.BitOr x y (Held (cell.Set es)) h i c = alike-augment_set k levels line merge.Union x y h i
+alike-augment_content k levels line binary.BitAnd x y (Held (cell.Set es)) h i c = alike-augment_set k levels line merge.Intersection x y h i
+alike-augment_content k levels line binary.Subtract x y (Held (cell.Set es)) h i c = alike-augment_set k levels line merge.Difference x y h i
+alike-augment_content k levels line binary.BitXor x y (Held (cell.Set es)) h i c = alike-augment_set k levels line merge.SymmetricDifference x y h i
 alike-augment_content k levels line op x y d h i c = alike-operate k levels line op x y h i
 
 pub alike-augmented : {w : Setting} (k : Veil w) (levels line : ℕ) (op : BinaryOperator) (x y : Value) → IsVisible k.hides x → IsVisible k.hides y → Alike k (IsVisible k.hides) (augmented w levels line op x y) (augmented (with_other k.other w) levels line op x y)

@@ -57,6 +57,7 @@ alike-pay_if_new k line (Some i) = alike_give {A = Unit {0}} Any tt tt
 
 pub visible-entries_in : {w : Setting} (k : Veil w) (c : Content) → ContentIsVisible k.hides c → PairsAreVisible k.hides (entries_in c)
 visible-entries_in k (Held (cell.Dict es)) h = h
+visible-entries_in k (Held (cell.Set es)) h = h
 visible-entries_in k _ h = tt
 
 -- a visible key has the same place among the entries of a dictionary over both shelves

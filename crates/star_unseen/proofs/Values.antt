@@ -9,7 +9,7 @@ use Rattle.star_store.specs.Arithmetic.{checked}
 use Rattle.star_meaning.specs.declared.fault.FaultCode.TheVariants as code
 use Rattle.star_meaning.specs.Run.{State, give}
 use Rattle.star_meaning.specs.Program.{Setting, seen}
-use Rattle.star_meaning.specs.Values.{Content, Held, bare, bool_of, check_key, compare, count_in, count_of, equal, int_of, is_true, item_in, iterate, new_dict, new_int, new_list, new_text, new_tuple, place_in, repr, encoded, str, str_of, take_all, take_item, take_items, text_of, text_value, value_in, want_bool, want_int, want_text}
+use Rattle.star_meaning.specs.Values.{Content, Held, bare, bool_of, check_key, compare, count_in, count_of, equal, int_of, is_true, item_in, iterate, new_dict, new_set, new_int, new_list, new_text, new_tuple, place_in, repr, encoded, str, str_of, take_all, take_item, take_items, text_of, text_value, value_in, want_bool, want_int, want_text}
 use Rattle.star_unseen.specs.Veil.{AreVisible, IsVisible, Maybe, VisibleIfThere, PairIsVisible, PairsAreVisible, StateIsVisible}
 use Rattle.star_unseen.specs.Shelves.{Veil, with_other}
 use Rattle.star_unseen.proofs.Looks.{ContentIsVisible}
@@ -46,6 +46,9 @@ alike-new_list k line xs h = alike_build line (1 + length xs) (cell.List xs) h
 pub alike-new_dict : {w : Setting} (k : Veil w) (line : ℕ) (es : List (Value × Value)) → PairsAreVisible k.hides es → Alike k (IsVisible k.hides) (new_dict line es) (new_dict line es)
 alike-new_dict k line es h = alike_build line (1 + length es) (cell.Dict es) h
 
+pub alike-new_set : {w : Setting} (k : Veil w) (line : ℕ) (es : List (Value × Value)) → PairsAreVisible k.hides es → Alike k (IsVisible k.hides) (new_set line es) (new_set line es)
+alike-new_set k line es h = alike_build line (1 + length es) (cell.Set es) h
+
 range_visible : {w : Setting} (k : Veil w) (b : Bool) (n : ℤ) → VisibleIfThere k.hides (if b then Some (value.Int n) else None)
 range_visible k true n = tt
 range_visible k false n = tt
@@ -54,6 +57,7 @@ pub visible-item_in : {w : Setting} (k : Veil w) (c : Content) (i : ℕ) → Con
 visible-item_in k (Held (cell.Tuple xs)) i h = every_get _ xs i h
 visible-item_in k (Held (cell.List xs)) i h = every_get _ xs i h
 visible-item_in k (Held (cell.Dict es)) i h = maybe_map (PairIsVisible k.hides) (IsVisible k.hides) (λ e. e.0) (λ e p. p.0) (slice_get es i) (every_get _ es i h)
+visible-item_in k (Held (cell.Set es)) i h = maybe_map (PairIsVisible k.hides) (IsVisible k.hides) (λ e. e.0) (λ e p. p.0) (slice_get es i) (every_get _ es i h)
 visible-item_in k (Held (cell.Range r)) i h = range_visible k (nat_lt i (range_length r)) _
 visible-item_in k _ i h = tt
 

@@ -46,6 +46,7 @@ frame_visible hides (Some (cell.Range r)) h = tt
 frame_visible hides (Some (cell.Tuple xs)) h = tt
 frame_visible hides (Some (cell.List xs)) h = tt
 frame_visible hides (Some (cell.Dict es)) h = tt
+frame_visible hides (Some (cell.Set es)) h = tt
 frame_visible hides (Some (cell.Func f)) h = tt
 frame_visible hides (Some (cell.Bound m v)) h = tt
 frame_visible hides (Some (cell.Struct fs)) h = tt

@@ -14,10 +14,10 @@ use Rattle.star_store.specs.Order.{order, order_cells, order_items, order_pair, 
 use Rattle.json.specs.Print.{quoted}
 use Rattle.star_store.specs.declared.layout.Layout.{Layout}
 use Rattle.star_store.specs.Fields.{Fields, is_before, names_of, same_names, values_of}
-use Rattle.star_store.specs.Json.{closing, colon, comma, json, line, members, name_in, named, put_array, put_cell, put_dict, put_member, put_named, put_object, put_place, put_value}
+use Rattle.star_store.specs.Json.{closing, colon, comma, json, line, members, name_in, named, put_array, put_cell, put_dict, put_member, put_named, put_nth, put_object, put_place, put_set, put_value}
 use Rattle.star_store.specs.Sorting.{in_order}
 use Rattle.star_store.specs.Key.{all_pass, check, check_cell, check_each, check_value, is_key, is_text, is_text_cell, key_cell, key_levels, key_value, place_of, same_key, same_key_cell, same_key_items, same_key_pair, same_key_place, same_key_value, text_place, text_value, value_of}
-use Rattle.star_store.specs.Text.{Say, all_said, on_path, say, separator, tuple_end, say_cell, say_entries, say_entry, say_field, say_fields, say_item, say_named, say_items, say_pair, say_place, say_value, text, then_say}
+use Rattle.star_store.specs.Text.{Say, all_said, on_path, say, separator, tuple_end, say_cell, say_element, say_elements, say_entries, say_entry, say_field, say_fields, say_item, say_named, say_items, say_nth, say_pair, say_place, say_value, text, then_say}
 use Rattle.star_store.specs.Truth.{true_cell, truth}
 use Rattle.star_unseen.specs.Veil.{AreVisible, CellIsVisible, Every, FieldsAreVisible, Hides, IsVisible, Maybe, VisibleIfThere, PairIsVisible, PairsAreVisible}
 use Rattle.star_unseen.proofs.Rows.{every_get, every_in_order, maybe_map}
@@ -176,6 +176,7 @@ cells_same : (hides : Hides) (look other : Value → Option Cell) → Looks hide
 cells_same hides look other l f g h one (Some (cell.Tuple xs)) (Some (cell.Tuple ys)) c d = items_same hides f g h xs ys c d
 cells_same hides look other l f g h one (Some (cell.List xs)) (Some (cell.List ys)) c d = items_same hides f g h xs ys c d
 cells_same hides look other l f g h one (Some (cell.Dict xs)) (Some (cell.Dict ys)) c d = entries_same hides look other l f g h xs ys c d
+cells_same hides look other l f g h one (Some (cell.Set xs)) (Some (cell.Set ys)) c d = entries_same hides look other l f g h xs ys c d
 cells_same hides look other l f g h one (Some (cell.Struct xs)) (Some (cell.Struct ys)) c d =
     ap (λ (m : Spend Bool). if same_names (names_of xs) (names_of ys) then m else answer false) (items_same hides f g h (values_of xs) (values_of ys) (fields_values hides xs c) (fields_values hides ys d))
 cells_same hides look other l f g h one _ _ c d = refl
@@ -248,6 +249,13 @@ pair_said hides f g h (Some e) c = ap (λ (m : Say). then_say m (then_say (say (
 entries_said : (hides : Hides) (f g : Value → Say) → ((x : Value) → IsVisible hides x → f x ≡ g x) → (es : List (Value × Value)) → PairsAreVisible hides es → say_entries f es ≡ say_entries g es
 entries_said hides f g h es c = said_same (say_entry f es) (say_entry g es) (λ i. ap (then_say (say (separator i))) (pair_said hides f g h (slice_get es i) (every_get _ es i c))) (length es) 0
 
+element_said : (hides : Hides) (f g : Value → Say) → ((x : Value) → IsVisible hides x → f x ≡ g x) → (o : Option (Value × Value)) → Maybe (PairIsVisible hides) o → say_element f o ≡ say_element g o
+element_said hides f g h None c = refl
+element_said hides f g h (Some e) c = h e.0 c.0
+
+elements_said : (hides : Hides) (f g : Value → Say) → ((x : Value) → IsVisible hides x → f x ≡ g x) → (es : List (Value × Value)) → PairsAreVisible hides es → say_elements f es ≡ say_elements g es
+elements_said hides f g h es c = said_same (say_nth f es) (say_nth g es) (λ i. ap (then_say (say (separator i))) (element_said hides f g h (slice_get es i) (every_get _ es i c))) (length es) 0
+
 named_said : (hides : Hides) (f g : Value → Say) → ((x : Value) → IsVisible hides x → f x ≡ g x) → (o : Option (List ℕ × Value)) → Maybe (λ e. IsVisible hides e.1) o → say_named f o ≡ say_named g o
 named_said hides f g h None c = refl
 named_said hides f g h (Some e) c = ap (λ (m : Say). then_say (say e.0) (then_say (say (codes " = ")) m)) (h e.1 c)
@@ -264,6 +272,7 @@ cell_said hides f g h path v (Some (cell.Tuple xs)) c = ap (λ (m : Say). then_s
 cell_said hides f g h path v (Some (cell.List xs)) c = ap {B = Say} (λ (m : Say) out left. if on_path v path then say (codes "[...]") out left else then_say (say (codes "[")) (then_say m (say (codes "]"))) out left) (items_said hides (f (path ++ v ∷ [])) (g (path ++ v ∷ [])) (h (path ++ v ∷ [])) xs c)
 cell_said hides f g h path v (Some (cell.Dict es)) c = ap {B = Say} (λ (m : Say) out left. if on_path v path then say (codes "{...}") out left else then_say (say (codes "{")) (then_say m (say (codes "}"))) out left) (entries_said hides (f (path ++ v ∷ [])) (g (path ++ v ∷ [])) (h (path ++ v ∷ [])) es c)
 cell_said hides f g h path v (Some (cell.Struct fs)) c = ap (λ (m : Say). then_say (say (codes "struct(")) (then_say m (say (codes ")")))) (fields_said hides (f path) (g path) (h path) fs c)
+cell_said hides f g h path v (Some (cell.Set es)) c = ap (λ (m : Say). then_say (say (codes "set([")) (then_say m (say (codes "])")))) (elements_said hides (f path) (g path) (h path) es c)
 cell_said hides f g h path v _ c = refl
 
 value_said : (hides : Hides) (look other : Value → Option Cell) → Looks hides look other → (f g : List Value → Value → Say) → SaysSame hides f g → (path : List Value) (v : Value) → IsVisible hides v → say_value look f path v ≡ say_value other g path v
@@ -280,6 +289,10 @@ same-text hides look other l (suc n) = λ path v c. ap {B = Say} (λ (m : Say) o
 array_put : (hides : Hides) (l : Layout) (n : ℕ) (f g : Value → Say) → ((x : Value) → IsVisible hides x → f x ≡ g x) → (xs : List Value) → AreVisible hides xs → put_array l n f xs ≡ put_array l n g xs
 array_put hides l n f g h xs c = ap (λ (m : Say). then_say (say (codes "[")) (then_say m (say (closing l n (length xs) ++ codes "]"))))
     (said_same (put_place l (n + 1) f xs) (put_place l (n + 1) g xs) (λ i. ap (then_say (say (comma i ++ line l (n + 1)))) (item_said hides f g h (slice_get xs i) (every_get _ xs i c))) (length xs) 0)
+
+set_put : (hides : Hides) (l : Layout) (n : ℕ) (f g : Value → Say) → ((x : Value) → IsVisible hides x → f x ≡ g x) → (es : List (Value × Value)) → PairsAreVisible hides es → put_set l n f es ≡ put_set l n g es
+set_put hides l n f g h es c = ap (λ (m : Say). then_say (say (codes "[")) (then_say m (say (closing l n (length es) ++ codes "]"))))
+    (said_same (put_nth l (n + 1) f es) (put_nth l (n + 1) g es) (λ i. ap (then_say (say (comma i ++ line l (n + 1)))) (element_said hides f g h (slice_get es i) (every_get _ es i c))) (length es) 0)
 
 named_put : (hides : Hides) (l : Layout) (f g : Value → Say) → ((x : Value) → IsVisible hides x → f x ≡ g x) → (o : Option (List ℕ × Value)) → Maybe (λ e. IsVisible hides e.1) o → put_named l f o ≡ put_named l g o
 named_put hides l f g h None c = refl
@@ -323,6 +336,7 @@ cell_put hides look other k l n f g h (Some (cell.Dict es)) c =
     dict_put hides l n (f (n + 1)) (g (n + 1)) (h (n + 1)) (members look es) (visible_ordered hides (named look es) (visible_named hides look es c))
     ∙ ap (λ o. put_dict l n (g (n + 1)) (option_map (in_order is_before) o)) (names_same hides look other k es c)
 cell_put hides look other k l n f g h (Some (cell.Struct fs)) c = object_put hides l n (f (n + 1)) (g (n + 1)) (h (n + 1)) fs c
+cell_put hides look other k l n f g h (Some (cell.Set es)) c = set_put hides l n (f (n + 1)) (g (n + 1)) (h (n + 1)) es c
 cell_put hides look other k l n f g h _ c = refl
 
 value_put : (hides : Hides) (look other : Value → Option Cell) → Looks hides look other → (l : Layout) (n : ℕ) (f g : ℕ → Value → Say) → WritesSame hides f g → (v : Value) → IsVisible hides v → put_value look l n f v ≡ put_value other l n g v

@@ -50,6 +50,7 @@ good_key hides look other l (Some k) h = same-is_key hides look other l key_leve
 
 place_same : (hides : Hides) (look other : Value → Option Cell) → Looks hides look other → (o : Option Value) (c : Option Cell) → VisibleIfThere hides o → Maybe (CellIsVisible hides) c → place_in look o c ≡ place_in other o c
 place_same hides look other l (Some k) (Some (cell.Dict es)) h d = same-place_of hides look other l k es h d
+place_same hides look other l (Some k) (Some (cell.Set es)) h d = same-place_of hides look other l k es h d
 place_same hides look other l None c h d = refl
 place_same hides look other l (Some k) None h d = refl
 place_same hides look other l (Some k) (Some (cell.Text t)) h d = refl
@@ -113,6 +114,7 @@ into_cell hides P f l (Err e) h = tt
 cell_changed : (hides : Hides) (c : Change) (place : Option ℕ) (o : Option Cell) → ChangeIsVisible hides c → Maybe (CellIsVisible hides) o → IfVisible hides (CellIsVisible hides) (change_cell c place o)
 cell_changed hides c place (Some (cell.List xs)) h d = into_cell hides (AreVisible hides) cell.List (λ a p. p) (change_items c xs) (items_visible hides c xs h d)
 cell_changed hides c place (Some (cell.Dict es)) h d = into_cell hides (PairsAreVisible hides) cell.Dict (λ a p. p) (change_entries c place es) (entries_visible hides c place es h d)
+cell_changed hides c place (Some (cell.Set es)) h d = into_cell hides (PairsAreVisible hides) cell.Set (λ a p. p) (change_entries c place es) (entries_visible hides c place es h d)
 cell_changed hides c place None h d = tt
 cell_changed hides c place (Some (cell.Text t)) h d = tt
 cell_changed hides c place (Some (cell.Range r)) h d = tt

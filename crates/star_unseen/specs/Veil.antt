@@ -55,6 +55,7 @@ CellIsVisible hides (cell.Func f) = AreVisible hides f.defaults × IsVisible hid
 CellIsVisible hides (cell.Frame f) = VisibleIfThere hides f.parent × Every (VisibleIfThere hides) f.slots
     × FileIsVisible hides f.file
 CellIsVisible hides (cell.Bound m v) = IsVisible hides v
+CellIsVisible hides (cell.Set es) = PairsAreVisible hides es
 CellIsVisible hides (cell.Struct fs) = FieldsAreVisible hides fs
 
 -- so it is with each of these cells

@@ -8,7 +8,7 @@ ghost use Rattle.std.specs.Fmt.{signed_decimal};
 ghost use Rattle.std.specs.Option.{option_copied, option_map};
 ghost use Rattle.json.specs.Print.{quoted};
 ghost use Rattle.star_store.specs.Fields.{is_before};
-ghost use Rattle.star_store.specs.Json.{bool_word, closing, colon, comma, json, line, members, named, put_array, put_cell, put_dict, put_items, put_member, put_members, put_object, put_place, put_value};
+ghost use Rattle.star_store.specs.Json.{bool_word, closing, colon, comma, json, line, members, named, put_array, put_cell, put_dict, put_elements, put_items, put_member, put_members, put_nth, put_object, put_place, put_set, put_value};
 ghost use Rattle.star_store.specs.Sorting.{in_order};
 ghost use Rattle.star_store.specs.Store.{look};
 ghost use Rattle.star_store.specs.Text.{Tells, same_address};
@@ -57,7 +57,7 @@ enum Way<'a> {
 
 /// The JSON of a value. It visits the value and all values inside, in the order of the text: a visit opens a level (else
 /// `Deep`) and then pays a step (else `Steps`). `BadType` for a value that is no None, bool, int, string, list, tuple,
-/// struct, or dictionary whose keys are all strings. `Memory` if an allocation fails. The text is not built: it is a
+/// set, struct, or dictionary whose keys are all strings. `Memory` if an allocation fails. The text is not built: it is a
 /// draft, in which at most about `room` bytes of long strings are copied.
 pub fn encode(
     alloc: Global,
@@ -169,6 +169,7 @@ fn put_cell<'a>(
             put_dict(source, way, levels, depth, sheet, value, entries)?;
         }
         Some(Cell::Struct(fields)) => put_struct(source, way, levels, depth, sheet, fields)?,
+        Some(Cell::Set(elements)) => put_set(source, way, levels, depth, sheet, elements)?,
         _ => return Err(StoreFault::BadType),
     }
     Ok(())
@@ -237,6 +238,74 @@ fn put_place<'a>(
     sheet.begin_item(source.layout, depth, i)?;
     match items.get(i) {
         Some(item) => put_json(source, way, levels, depth, sheet, item)?,
+        None => sheet.say("")?,
+    }
+    Ok(())
+}
+
+#[cycle(json)]
+fn put_set<'a>(
+    source: &'a Source<'a>,
+    way: &Way<'_>,
+    levels: u32,
+    depth: u32,
+    sheet: &mut Sheet,
+    elements: &'a Entries,
+) -> Result<(), StoreFault>
+    requires way { AreWithin (look_in source.now) way.now }
+    requires small { depth + 1 + levels < 2 ^ 32 }
+    ensures answer { Writes (put_set source.now.layout.now depth
+        (json (look_in source.now) source.now.layout.now levels (depth + 1)) elements.now) sheet.old result sheet.new }
+    ensures less { sheet.new.steps ≤ sheet.old.steps }
+{
+    sheet.say("[")?;
+    put_elements(source, way, levels, depth + 1, sheet, elements)?;
+    sheet.close(source.layout, depth, elements.len(), "]")?;
+    Ok(())
+}
+
+#[cycle(json)]
+#[tactic(auto, using(crate::proofs::Texts::all_said_next))]
+fn put_elements<'a>(
+    source: &'a Source<'a>,
+    way: &Way<'_>,
+    levels: u32,
+    depth: u32,
+    sheet: &mut Sheet,
+    elements: &'a Entries,
+) -> Result<(), StoreFault>
+    requires way { AreWithin (look_in source.now) way.now }
+    requires small { depth + levels < 2 ^ 32 }
+    ensures answer { Writes (put_elements source.now.layout.now depth
+        (json (look_in source.now) source.now.layout.now levels depth) elements.now) sheet.old result sheet.new }
+    ensures less { sheet.new.steps ≤ sheet.old.steps }
+{
+    let count = elements.len();
+    for i in 0..count {
+        put_nth(source, way, levels, depth, sheet, elements, i)?;
+    }
+    Ok(())
+}
+
+#[cycle(json)]
+fn put_nth<'a>(
+    source: &'a Source<'a>,
+    way: &Way<'_>,
+    levels: u32,
+    depth: u32,
+    sheet: &mut Sheet,
+    elements: &'a Entries,
+    i: usize,
+) -> Result<(), StoreFault>
+    requires way { AreWithin (look_in source.now) way.now }
+    requires small { depth + levels < 2 ^ 32 }
+    ensures answer { Writes (put_nth source.now.layout.now depth
+        (json (look_in source.now) source.now.layout.now levels depth) elements.now i) sheet.old result sheet.new }
+    ensures less { sheet.new.steps ≤ sheet.old.steps }
+{
+    sheet.begin_item(source.layout, depth, i)?;
+    match elements.get(i) {
+        Some((element, _)) => put_json(source, way, levels, depth, sheet, element)?,
         None => sheet.say("")?,
     }
     Ok(())

@@ -107,6 +107,7 @@ fn same_cells<'a>(
         (Some(Cell::Dict(_)), Some(Cell::Dict(_))) => {
             same_entries(arena, homes, levels, steps, x, y)
         }
+        (Some(Cell::Set(_)), Some(Cell::Set(_))) => same_entries(arena, homes, levels, steps, x, y),
         (Some(Cell::Func(_)), Some(Cell::Func(_))) => Ok(one),
         (Some(Cell::Bound(_, _)), Some(Cell::Bound(_, _))) => Ok(one),
         (Some(Cell::Struct(s)), Some(Cell::Struct(t))) => {

@@ -5,7 +5,7 @@
 ghost use Rattle.std.specs.Prelude.{◌≡◌, ◌≤◌, ◌++◌, ◌∷◌, ◌-◌, [], OnOk, codes, take, vec_len};
 ghost use Rattle.std.specs.Fmt.{signed_decimal};
 ghost use Rattle.star_store.specs.Store.{look};
-ghost use Rattle.star_store.specs.Text.{Tells, after, all_bounds, bool_text, bounds_parts, function_parts, method_parts, on_path, parts_of_built_in, quoted, range_after, same_address, say_dict, say_entries, say_entry, say_field, say_fields, say_inside, say_items, say_list, say_new_dict, say_new_list, say_place, say_read, say_struct, say_tuple, say_within, separator, text, tuple_end};
+ghost use Rattle.star_store.specs.Text.{Tells, after, all_bounds, bool_text, bounds_parts, function_parts, method_parts, on_path, parts_of_built_in, quoted, range_after, same_address, say_dict, say_elements, say_entries, say_entry, say_field, say_fields, say_inside, say_items, say_list, say_new_dict, say_new_list, say_nth, say_place, say_read, say_set, say_struct, say_tuple, say_within, separator, text, tuple_end};
 ghost use Rattle.star_visit.specs.Pages.{Puts};
 
 use crate::draft::Draft;
@@ -128,6 +128,7 @@ fn put_cell<'a>(
         Some(Cell::Func(function)) => page.say_function(&function.get().name)?,
         Some(Cell::Bound(method, _)) => page.say_method(*method)?,
         Some(Cell::Struct(fields)) => put_struct(arena, homes, levels, page, fields)?,
+        Some(Cell::Set(elements)) => put_set(arena, homes, levels, page, elements)?,
         Some(Cell::Frame(_)) | None => page.say("")?,
     }
     Ok(())
@@ -212,6 +213,68 @@ fn put_field<'a>(
             page.say_name(name)?;
             put_text(arena, homes, levels, page, value)?;
         }
+        None => page.say("")?,
+    }
+    Ok(())
+}
+
+#[cycle(text)]
+fn put_set<'a>(
+    arena: &'a Arena,
+    homes: &'a Homes<'a>,
+    levels: u32,
+    page: &mut Page,
+    elements: &'a Entries,
+) -> Result<(), StoreFault>
+    ensures answer { Puts (say_set (text (look arena.now homes.now) levels page.old.path.items) elements.now) page.old
+        result page.new }
+    ensures less { page.new.steps ≤ page.old.steps }
+    ensures path { OnOk result (page.new.path.items ≡ page.old.path.items) }
+{
+    page.say("set([")?;
+    put_elements(arena, homes, levels, page, elements)?;
+    page.say("])")?;
+    Ok(())
+}
+
+#[cycle(text)]
+#[tactic(auto, using(crate::proofs::Texts::all_said_next))]
+fn put_elements<'a>(
+    arena: &'a Arena,
+    homes: &'a Homes<'a>,
+    levels: u32,
+    page: &mut Page,
+    elements: &'a Entries,
+) -> Result<(), StoreFault>
+    ensures answer { Puts (say_elements (text (look arena.now homes.now) levels page.old.path.items) elements.now)
+        page.old result page.new }
+    ensures less { page.new.steps ≤ page.old.steps }
+    ensures path { OnOk result (page.new.path.items ≡ page.old.path.items) }
+{
+    let count = elements.len();
+    for i in 0..count {
+        put_nth(arena, homes, levels, page, elements, i)?;
+    }
+    Ok(())
+}
+
+#[cycle(text)]
+fn put_nth<'a>(
+    arena: &'a Arena,
+    homes: &'a Homes<'a>,
+    levels: u32,
+    page: &mut Page,
+    elements: &'a Entries,
+    i: usize,
+) -> Result<(), StoreFault>
+    ensures answer { Puts (say_nth (text (look arena.now homes.now) levels page.old.path.items) elements.now i) page.old
+        result page.new }
+    ensures less { page.new.steps ≤ page.old.steps }
+    ensures path { OnOk result (page.new.path.items ≡ page.old.path.items) }
+{
+    page.say_separator(i)?;
+    match elements.get(i) {
+        Some((element, _)) => put_text(arena, homes, levels, page, element)?,
         None => page.say("")?,
     }
     Ok(())

@@ -7,7 +7,7 @@ ghost use Rattle.star_store.specs.Truth.{truth};
 use star_store::arena::{Arena, Homes};
 use star_store::values::{Cell, Value};
 
-/// Whether a value counts as true: all do but None, False, 0 and an empty string, list, tuple, dictionary or range.
+/// Whether a value counts as true: all do but None, False, 0 and an empty string, list, tuple, dictionary, set or range.
 pub fn is_true(arena: &Arena, homes: &Homes, value: Value) -> bool
     ensures { result ≡ truth (look arena.now homes.now) value }
 {
@@ -22,6 +22,7 @@ pub fn is_true(arena: &Arena, homes: &Homes, value: Value) -> bool
             Some(Cell::Tuple(items)) => items.len() != 0,
             Some(Cell::List(items)) => items.len() != 0,
             Some(Cell::Dict(entries)) => entries.len() != 0,
+            Some(Cell::Set(entries)) => entries.len() != 0,
             _ => true,
         },
     }

@@ -24,11 +24,26 @@ use std::collections::{BTreeMap, BTreeSet};
 /// The most entries that may be listed.
 const ENTRIES: usize = 1_000_000;
 
+/// Why what a path leads to is no file of a folder, by where it lies.
+#[derive(Clone, Copy, Debug, PartialEq, Eq)]
+pub enum Apart {
+    /// A link leads out of the folder.
+    Outside,
+    /// A link leads there, and none is followed.
+    Linked,
+    /// It is below `/proc`, where the system makes what is read.
+    System,
+}
+
 /// A folder whose folders can be listed.
 pub trait Listing {
     /// The entries of the folder at a path, by their names. The path has a slash between two folders. At the top it is
     /// empty.
     fn entries(&mut self, alloc: Global, path: &str) -> Result<BTreeMap<String, Kind>, FolderError>;
+
+    /// Why what the path of a label leads to is no file of the folder, by where it lies. `None` if it may be one, or if
+    /// the path leads to nothing.
+    fn apart(&self, alloc: Global, label: &Label) -> Option<Apart>;
 }
 
 /// Which of the files below a folder are asked for.

@@ -166,6 +166,7 @@ fn further_built_in(name: &str) -> Option<Value>
         BuiltIn::Hash,
         BuiltIn::Json,
         BuiltIn::Ord,
+        BuiltIn::Set,
         BuiltIn::Struct,
     ];
     built_in_among(&functions, name)

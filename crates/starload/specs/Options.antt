@@ -1,5 +1,5 @@
 -- The options that the arguments of a command line give.
-use Rattle.std.specs.Prelude.{◌≡◌, ℕ, ◌≤◌, nat_eq, Bool, true, false, not, ◌||◌, ◌&&◌, List, [], ◌∷◌, Option, Some, None, codes, string_bytes, if◌then◌else◌}
+use Rattle.std.specs.Prelude.{◌≡◌, ℕ, ◌≤◌, ◌==◌, nat_eq, Bool, true, false, not, ◌||◌, ◌&&◌, List, [], ◌∷◌, Option, Some, None, codes, string_bytes, if◌then◌else◌}
 use Rattle.std.specs.Cmp.Lexicographic.{pointwise}
 use Rattle.std.specs.Option.{option_map_or}
 use Rattle.std.specs.Str.Parse.{IsNumeral, digits_value, without_leading_plus}
@@ -33,6 +33,10 @@ HasFlag matches id = one_text (found_of matches) id ≡ Some (codes "true")
 abbrev pub LacksFlag : ArgMatches → List ℕ → Type 0
 LacksFlag matches id = one_text (found_of matches) id ≡ Some (codes "false")
 
+-- the exit status if it only says whether there is a report: 0 in place of 1
+abbrev pub report_status : ℕ → ℕ
+report_status status = if status == 1 then 0 else status
+
 -- a word writes a number in decimal digits and nothing more, except that a plus may come before them
 abbrev pub Writes : List ℕ → ℕ → Type 0
 Writes word n = IsNumeral 10 (without_leading_plus word) × (digits_value 10 (without_leading_plus word) ≡ n)
@@ -54,6 +58,10 @@ pub record IsWanted (matches : ArgMatches) (wanted : Wanted) : Type 0 where
   pub steps : wanted.steps ≡ is_named matches (codes "with") (codes "steps")
   pub only_roots : HasFlag matches (codes "only-roots") → wanted.only_roots ≡ true
   pub all : LacksFlag matches (codes "only-roots") → wanted.only_roots ≡ false
+
+-- the graph of loads is wanted as DOT
+abbrev pub is_drawn : ArgMatches → Bool
+is_drawn matches = is_named matches (codes "graph") (codes "dot")
 
 -- the check: of the files with nothing against them it shows the roots alone if their flag is there
 abbrev pub IsCheckFor : ArgMatches → Output → Type 0

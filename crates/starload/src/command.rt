@@ -12,7 +12,7 @@ use star_serve::serve::{Form, Options, Output, Style, Wanted};
 use std::alloc::{AllocError, Global};
 
 /// The words of `--version` after the program's name: its version, and the kit that proved it.
-const VERSION: &str = "1.10.0 (rattle-kit-13f logic dac8208d650f15bf)";
+const VERSION: &str = "1.11.0 (rattle-kit-13f logic dac8208d650f15bf)";
 
 /// The end of the help, after the options.
 const EXAMPLE: &str =
@@ -192,9 +192,18 @@ fn get_arg<'a>(alloc: Global) -> Result<Arg<'a>, AllocError> {
         .conflicts_with("only-roots")
 }
 
+/// The words that `--graph` may have.
+const GRAPHS: &[&str] = &["dot", "json"];
+
 fn graph_arg<'a>(alloc: Global) -> Result<Arg<'a>, AllocError> {
-    flag_arg(alloc, "graph")
-        .help("In place of the report writes the graph of loads as DOT")
+    valued_arg(alloc, "graph", "FORM")
+        .help(
+            "In place of the report writes the graph of loads: dot, which is for Graphviz, or json, with --repo alone: a line for each file, and nothing runs",
+        )
+        .value_parser(GRAPHS)
+        .num_args(0..=1)
+        .require_equals(true)
+        .default_missing_value("dot")
         .conflicts_with("with")?
         .conflicts_with("only-roots")
 }
@@ -253,10 +262,28 @@ fn keep_arg<'a>(alloc: Global) -> Result<Arg<'a>, AllocError> {
         .conflicts_with("ROOT")
 }
 
+fn roots_from_arg<'a>(alloc: Global) -> Result<Arg<'a>, AllocError> {
+    valued_arg(alloc, "roots-from", "FILE")
+        .help(
+            "A file with further roots, one a line; lines that are empty or begin with # have none",
+        )
+        .conflicts_with("requests")?
+        .conflicts_with("join")
+}
+
+fn report_status_arg<'a>(alloc: Global) -> Result<Arg<'a>, AllocError> {
+    flag_arg(alloc, "report-status")
+        .help("The exit status is 0 if there is a report, also if some file is not ok")
+        .conflicts_with("get")?
+        .conflicts_with("requests")?
+        .conflicts_with("join")
+}
+
 fn roots_arg<'a>(alloc: Global) -> Result<Arg<'a>, AllocError> {
     Arg::new(alloc, "ROOT")
         .help("The labels of the files to load, such as //app:main.star")
         .action(ArgAction::Append)
+        .required_unless_present("roots-from")?
         .required_unless_present("explain-code")?
         .required_unless_present("requests")?
         .required_unless_present("join")
@@ -275,7 +302,8 @@ fn with_input<'a>(alloc: Global, command: Command<'a>) -> Result<Command<'a>, Al
         .arg(match_arg(alloc)?)?
         .arg(exclude_arg(alloc)?)?
         .arg(keep_going_arg(alloc)?)?
-        .arg(links_arg(alloc)?)
+        .arg(links_arg(alloc)?)?
+        .arg(roots_from_arg(alloc)?)
 }
 
 /// Adds the options of the output.
@@ -289,6 +317,7 @@ fn with_output<'a>(alloc: Global, command: Command<'a>) -> Result<Command<'a>, A
         .arg(explain_arg(alloc))?
         .arg(color_arg(alloc))?
         .arg(progress_arg(alloc))?
+        .arg(report_status_arg(alloc)?)?
         .arg(code_arg(alloc))
 }
 
@@ -359,6 +388,13 @@ fn is_named(matches: &ArgMatches<'_>, id: &str, value: &str) -> bool
     }
 }
 
+/// Whether the graph of loads is wanted in lines of JSON, by `--graph`.
+pub fn is_listed(matches: &ArgMatches<'_>) -> bool
+    ensures { result ≡ spec.is_named matches.now (codes "graph") (codes "json") }
+{
+    is_named(matches, "graph", "json")
+}
+
 /// Whether a word is one of these.
 fn has_word(words: &[&str], value: &str) -> bool
     ensures { result ≡ spec.has_word value.now (map (λ w. w.now) words.now) }
@@ -390,13 +426,13 @@ fn wanted(matches: &ArgMatches<'_>) -> Wanted
 /// The kind of text that the words of the command line want: the graph, the check, or the globals of a name, or else the
 /// report.
 fn output(alloc: Global, matches: &ArgMatches<'_>) -> Result<Output, AllocError>
-    ensures graph { IfOk result (λ o. spec.HasFlag matches.now (codes "graph") → (o ≡ Output.Graph)) }
-    ensures check { IfOk result (λ o. spec.LacksFlag matches.now (codes "graph")
+    ensures graph { IfOk result (λ o. spec.is_drawn matches.now ≡ true → (o ≡ Output.Graph)) }
+    ensures check { IfOk result (λ o. spec.is_drawn matches.now ≡ false
         → spec.HasFlag matches.now (codes "check") → spec.IsCheckFor matches.now o) }
-    ensures other { IfOk result (λ o. spec.LacksFlag matches.now (codes "graph")
+    ensures other { IfOk result (λ o. spec.is_drawn matches.now ≡ false
         → spec.LacksFlag matches.now (codes "check") → spec.IsOtherOutput matches.now o) }
 {
-    if matches.get_flag("graph") {
+    if is_named(matches, "graph", "dot") {
         return Ok(Output::Graph);
     }
     if matches.get_flag("check") {
@@ -498,6 +534,18 @@ fn form_of(matches: &ArgMatches<'_>, errors: Errors) -> Option<Form>
     })
 }
 
+/// The exit status: that of the answer, but with `--report-status` 0 in place of 1.
+pub fn exit_status(matches: &ArgMatches<'_>, status: u8) -> u8
+    ensures reported { spec.HasFlag matches.now (codes "report-status") → (result ≡ spec.report_status status) }
+    ensures other { spec.LacksFlag matches.now (codes "report-status") → (result ≡ status) }
+{
+    if status == 1 && matches.get_flag("report-status") {
+        0
+    } else {
+        status
+    }
+}
+
 /// The dialect that the word after `--language` names: the core language, if there is none.
 fn dialect(matches: &ArgMatches<'_>) -> Dialect
     ensures { result ≡ spec.dialect_of matches.now }
@@ -527,10 +575,10 @@ pub fn options(
     ensures prelude { IfOk result (λ o. option_map string_bytes o.prelude
         ≡ first_value (found_of matches.now) (codes "prelude")) }
     ensures dir { IfOk result (λ o. option_map string_bytes o.dir ≡ first_value (found_of matches.now) (codes "dir")) }
-    ensures graph { IfOk result (λ o. spec.HasFlag matches.now (codes "graph") → (o.output ≡ Output.Graph)) }
-    ensures check { IfOk result (λ o. spec.LacksFlag matches.now (codes "graph")
+    ensures graph { IfOk result (λ o. spec.is_drawn matches.now ≡ true → (o.output ≡ Output.Graph)) }
+    ensures check { IfOk result (λ o. spec.is_drawn matches.now ≡ false
         → spec.HasFlag matches.now (codes "check") → spec.IsCheckFor matches.now o.output) }
-    ensures other { IfOk result (λ o. spec.LacksFlag matches.now (codes "graph")
+    ensures other { IfOk result (λ o. spec.is_drawn matches.now ≡ false
         → spec.LacksFlag matches.now (codes "check") → spec.IsOtherOutput matches.now o.output) }
     ensures trace { IfOk result (λ o. spec.HasFlag matches.now (codes "trace") → (o.trace ≡ true)) }
     ensures no_trace { IfOk result (λ o. spec.LacksFlag matches.now (codes "trace") → (o.trace ≡ false)) }

@@ -5,28 +5,32 @@
 //! tells a person what is at fault and where, if that is wanted (`docs/EXPLAIN.md`).
 //!
 //! `command` has the command line, and `codes` prints the page of a fault's code. Begin at `main`, the last function.
-//! The exit status is the one of `star_bundle::error::status`. An error before the run goes to standard error, and the
+//! The exit status is the one of `star_bundle::error::status`, or of `exit_status`. An error before the run goes to standard error, and the
 //! exit status is 2. The rules are in `docs/USING.md`. `command::options` has the contract that
 //! says which options the arguments give.
 #![tactic(auto)]
 
-ghost use Rattle.std.specs.Prelude.{◌≤◌};
+ghost use Rattle.std.specs.Prelude.{◌≤◌, IfSome};
 
 mod below;
 mod codes;
 mod command;
+mod graph;
 mod join;
 mod progress;
 mod repo;
 mod requests;
+mod roots;
 mod streams;
+mod topics;
 
 use clap::error::ErrorKind;
 use clap::{ArgMatches, Command};
-use command::{Errors, command, is_shown, options};
+use command::{Errors, command, exit_status, is_listed, is_shown, options};
 use progress::Shown;
 use repo::{RepoAsked, report_repo};
 use requests::{FolderAsked, answer_requests};
+use roots::{further_roots, say_no_roots};
 use star_bundle::error::{ServeError, status};
 use star_folder::disk::DiskFolder;
 use star_folder::folder::Folder;
@@ -44,11 +48,17 @@ use std::sync::Wait;
 use std::thread::Threads;
 use std::{env, io};
 use streams::{Streams, is_for_tools};
+use topics::{Help, asked_help, say_topic, say_topics};
+
+/// Says why there is no report, and answers with the status.
+fn refused(rt: &HostRuntime, text: &str) -> u8 {
+    let _ = eprintln!(rt; "starload: {text}");
+    2
+}
 
 /// Says why there is no report.
 fn refuse(rt: &HostRuntime, text: &str) -> ExitCode {
-    let _ = eprintln!(rt; "starload: {text}");
-    ExitCode::from(2)
+    ExitCode::from(refused(rt, text))
 }
 
 /// The message for arguments that cannot be read.
@@ -86,23 +96,24 @@ fn say(rt: &HostRuntime, error: &clap::Error) -> ExitCode {
     }
 }
 
-/// Whether the one word of the command line is `help`.
-fn is_help(words: &[String]) -> bool {
-    match words {
-        [_, word] => word.as_str() == "help",
-        _ => false,
-    }
-}
-
 /// The words that ask for the help.
 const HELP: &[&str] = &["starload", "--help"];
 
-/// Writes the help to standard output.
-fn help(rt: &HostRuntime, command: Command<'_>) -> ExitCode {
-    let Err(error) = command.try_get_matches_from(HELP) else {
-        return ExitCode::SUCCESS;
+/// Writes the help to standard output, and then its topics.
+fn print_help(rt: &HostRuntime, command: Command<'_>) -> io::Result<()> {
+    if let Err(error) = command.try_get_matches_from(HELP) {
+        rt.print(&error)?;
+    }
+    say_topics(rt)
+}
+
+/// Writes the help, or a page of it, to standard output.
+fn help(rt: &HostRuntime, command: Command<'_>, asked: Help) -> ExitCode {
+    let printed = match asked {
+        Help::Whole => print_help(rt, command),
+        Help::Page(topic) => say_topic(rt, topic),
     };
-    match rt.print(&error) {
+    match printed {
         Ok(()) => ExitCode::SUCCESS,
         Err(_) => ExitCode::from(2),
     }
@@ -223,19 +234,19 @@ fn report_folder<H: Threads + Wait + Sync>(
     outcome
 }
 
-/// Writes the report, or says why there is none. The loaders are threads of `threads`.
+/// Writes the report, or says why there is none, and answers with the status. The loaders are threads of `threads`.
 fn report<H: Threads + Wait + Sync>(
     rt: &HostRuntime,
     threads: &H,
     alloc: Global,
     matches: &ArgMatches<'_>,
     options: Options,
-) -> ExitCode
+) -> u8
     requires loaders { (1 ≤ options.loaders) × (options.loaders ≤ 64) }
     requires steps { (1 ≤ options.mode.steps) × (options.mode.steps ≤ 100000000) }
 {
     if options.trace && is_for_tools(&options) {
-        return refuse(
+        return refused(
             rt,
             "`--trace` does not go with `--explain=github` and `--explain=sarif`",
         );
@@ -243,13 +254,13 @@ fn report<H: Threads + Wait + Sync>(
     match RepoAsked::of(alloc, matches) {
         Ok(None) => {}
         Ok(Some(asked)) => return report_repo(rt, threads, alloc, &asked, options),
-        Err(_) => return refuse(rt, ServeError::Memory.text()),
+        Err(_) => return refused(rt, ServeError::Memory.text()),
     }
     let outcome = match &options.dir {
         Some(dir) => report_folder(rt, threads, alloc, dir.as_str(), &options),
         None => report_bundle(rt, threads, alloc, &options),
     };
-    ExitCode::from(status(&outcome))
+    status(&outcome)
 }
 
 /// The facts about standard error. (https://no-color.org says what `NO_COLOR` means.)
@@ -269,6 +280,35 @@ fn errors_of(rt: &HostRuntime) -> Errors {
     }
 }
 
+/// The options that the words of the command line give, with the further roots; or says why there are none.
+fn asked_options(
+    rt: &HostRuntime,
+    alloc: Global,
+    matches: &ArgMatches<'_>,
+    errors: Errors,
+) -> Option<Options>
+    ensures loaders { IfSome result (λ o. (1 ≤ o.loaders) × (o.loaders ≤ 64)) }
+    ensures steps { IfSome result (λ o. (1 ≤ o.mode.steps) × (o.mode.steps ≤ 100000000)) }
+{
+    let Ok(mut options) = options(alloc, matches, errors) else {
+        refused(rt, ServeError::Memory.text());
+        return None;
+    };
+    options.seed = seed_of(rt);
+    let mut further = match further_roots(rt, alloc, matches) {
+        Ok(roots) => roots,
+        Err(error) => {
+            say_no_roots(rt, matches, &error);
+            return None;
+        }
+    };
+    if options.roots.append(&mut further).is_err() {
+        refused(rt, ServeError::Memory.text());
+        return None;
+    }
+    Some(options)
+}
+
 fn main(rt: HostRuntime) -> ExitCode {
     let alloc = rt.alloc();
     let words = match words(&rt) {
@@ -279,8 +319,8 @@ fn main(rt: HostRuntime) -> ExitCode {
         Ok(command) => command,
         Err(error) => return say(&rt, &error),
     };
-    if is_help(words.as_slice()) {
-        return help(&rt, command);
+    if let Some(asked) = asked_help(words.as_slice()) {
+        return help(&rt, command, asked);
     }
     let matches = match command.try_get_matches_from(words.as_slice()) {
         Ok(matches) => matches,
@@ -293,11 +333,12 @@ fn main(rt: HostRuntime) -> ExitCode {
         return join::join_reports(&rt, alloc, &matches);
     }
     let errors = errors_of(&rt);
-    let mut options = match options(alloc, &matches, errors) {
-        Ok(options) => options,
-        Err(_) => return refuse(&rt, ServeError::Memory.text()),
+    if is_listed(&matches) && matches.get_str("repo").is_none() {
+        return refuse(&rt, "`--graph=json` goes with `--repo`");
+    }
+    let Some(mut options) = asked_options(&rt, alloc, &matches, errors) else {
+        return ExitCode::from(2);
     };
-    options.seed = seed_of(&rt);
     if matches.get_flag("requests") {
         let keep = matches.get_one::<u32>("keep").unwrap_or(268_435_456);
         let asked = FolderAsked::of(&matches);
@@ -309,5 +350,5 @@ fn main(rt: HostRuntime) -> ExitCode {
     if let Some(shown) = shown {
         shown.end(&rt);
     }
-    status
+    ExitCode::from(exit_status(&matches, status))
 }

@@ -5,26 +5,27 @@ ghost use Rattle.std.specs.Prelude.{◌≡◌, ◌≤◌, IfOk, IfSome, true};
 ghost use Rattle.star_label.specs.Label.{is_package};
 
 use crate::below::{Below, Roots, left_out, say_left_out};
-use crate::command::values_of;
-use crate::streams::Streams;
+use crate::command::{is_listed, values_of};
+use crate::graph::print_graph;
+use crate::streams::{Streams, is_for_tools};
 use clap::ArgMatches;
 use star_bundle::error::{ServeError, status};
-use star_hint::missing::{about_file, about_labels};
+use star_hint::missing::{about_apart, about_file, about_labels};
 use star_label::error::LabelError;
 use star_label::label::Label;
 use star_repo::disk::{DiskRepo, Links, Top};
 use star_repo::error::RepoError;
 use star_repo::wanting::{LoadAt, wanting};
+use star_repo::watched::WatchedRepo;
 use star_serve::repo::serve_repo;
 use star_serve::serve::Options;
 use star_tree::tree::Tree;
 use star_words::named::asked_labels;
-use star_words::pattern::{Filter, front_of};
+use star_words::pattern::{Apart, Filter, front_of};
 use star_words::words::{label_of, label_of_word};
 use std::alloc::{AllocError, AllocFailed, Global};
 use std::collections::BTreeMap;
 use std::mem::ManuallyDrop;
-use std::process::ExitCode;
 use std::sync::Wait;
 use std::thread::Threads;
 use std::{env, fs, io, slice};
@@ -43,6 +44,8 @@ pub(crate) struct RepoAsked {
     pub keeps_going: bool,
     /// Which links are followed.
     pub links: Links,
+    /// What each file loads is wanted, and nothing runs.
+    pub is_listed: bool,
 }
 
 /// Which links are followed, by the word after `--links`: those that lead to a file of the folder, if there is none.
@@ -73,6 +76,7 @@ impl RepoAsked {
             left_out: values_of(alloc, matches, "exclude")?,
             keeps_going: matches.get_flag("keep-going"),
             links: links_of(matches),
+            is_listed: is_listed(matches),
         }))
     }
 
@@ -397,6 +401,37 @@ fn say_refusal(rt: &HostRuntime, refusal: &Refusal, is_told: bool) {
     }
 }
 
+/// Of how many labels that have no file a person is told that a link leads out of the folder.
+fn most_told(options: &Options) -> usize {
+    if options.explain.is_none() || is_for_tools(options) {
+        0
+    } else {
+        10
+    }
+}
+
+/// Says of labels that have no file why, by where their paths lead.
+fn say_apart(rt: &HostRuntime, alloc: Global, labels: &[(Label, Apart)]) {
+    for entry in labels {
+        if let Ok(about) = about_apart(alloc, &entry.0, entry.1) {
+            let _ = eprint!(rt; "{about}");
+        }
+    }
+}
+
+/// Writes what each file that the roots and the prelude reach loads. It answers whether all are there.
+fn listed(
+    rt: &HostRuntime,
+    alloc: Global,
+    top: Top<'_>,
+    options: &Options,
+    are_all: bool,
+) -> Result<bool, Refusal> {
+    let labels = asked_labels(alloc, options.roots.as_slice(), options.prelude.as_ref())?;
+    print_graph(rt, alloc, &mut DiskRepo::new(rt, top), labels)?;
+    Ok(are_all)
+}
+
 /// Writes the report of the files that roots reach in a folder, and says before it which files were found and are left
 /// out. It answers whether every module of the report is ok and no file is left out. The loaders are threads of
 /// `threads`.
@@ -424,11 +459,18 @@ fn reported<H: Threads + Wait + Sync>(
     let options = with_labels(alloc, &place, options, labels)?;
     say_left_out(rt, &left_out);
     let top = asked.top(&place);
-    let mut folder = DiskRepo::new(rt, top);
+    if asked.is_listed {
+        return listed(rt, alloc, top, &options, left_out.is_empty());
+    }
+    let most = most_told(&options);
+    let mut folder = WatchedRepo::new(alloc, DiskRepo::new(rt, top), most);
     let mut streams = Streams::of(rt, &options);
     let (report, said) = (&mut streams.report, &mut streams.said);
     match serve_repo(threads, alloc, &mut folder, report, said, &options) {
-        Ok(all_ok) => Ok(streams.ended(all_ok && left_out.is_empty())?),
+        Ok(all_ok) => {
+            say_apart(rt, alloc, folder.apart());
+            Ok(streams.ended(all_ok && left_out.is_empty())?)
+        }
         Err(error) => {
             let load = load_for(rt, threads, alloc, top, &options, &error);
             let about = about_for(rt, alloc, top, &options, &error);
@@ -444,16 +486,16 @@ pub(crate) fn report_repo<H: Threads + Wait + Sync>(
     alloc: Global,
     asked: &RepoAsked,
     options: Options,
-) -> ExitCode
+) -> u8
     requires loaders { (1 ≤ options.loaders) × (options.loaders ≤ 64) }
     requires steps { (1 ≤ options.mode.steps) × (options.mode.steps ≤ 100000000) }
 {
     let is_told = options.explain.is_some();
     match reported(rt, threads, alloc, asked, options) {
-        Ok(all_ok) => ExitCode::from(status(&Ok(all_ok))),
+        Ok(all_ok) => status(&Ok(all_ok)),
         Err(refusal) => {
             say_refusal(rt, &refusal, is_told);
-            ExitCode::from(2)
+            2
         }
     }
 }

@@ -30,7 +30,7 @@ impl Arena {
     fn entry_count(&self, at: u32) -> usize {
         match self.cells.get(at as usize) {
             Some(counted) => match &counted.cell {
-                Cell::Dict(entries) => entries.len(),
+                Cell::Dict(entries) | Cell::Set(entries) => entries.len(),
                 _ => 0,
             },
             None => 0,
@@ -87,9 +87,7 @@ impl Arena {
         ensures found { IfSome result (λ index. IsIndexed self.now (cell_at self.now.cells at) index.value) }
         ensures within { IfSome result (λ index. at + 1 ≤ length self.now.cells) }
     {
-        let Cell::Dict(entries) = &self.cells.get(at as usize)?.cell else {
-            return None;
-        };
+        let entries = self.cells.get(at as usize)?.cell.entries()?;
         let index = index_of(self, entries)?;
         Box::new(self.alloc, index).ok()
     }

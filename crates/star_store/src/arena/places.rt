@@ -1,4 +1,4 @@
-//! Look-ups in dictionaries: the place of a key's entry, by the dictionary's index if it has one, else by a walk.
+//! Look-ups in dictionaries and sets: the place of a key's entry, by the dictionary's index if it has one, else by a walk.
 //!
 //! A walk compares a key that is not a tuple with each key in place (`place_of_scalar`), a tuple by the definition's
 //! recursion. A look-up in a published dictionary uses its index only under the file number of its store, which
@@ -8,10 +8,9 @@
 ghost use Rattle.std.specs.Prelude.{◌≡◌, IfSome, Some, length, option_and_then, slice_get};
 ghost use Rattle.std.specs.Option.{option_copied};
 ghost use Rattle.star_store.specs.Content.{content};
-ghost use Rattle.star_store.specs.Index.{IsIndexed, IsKnown, Places, PlacesAt, TextPlaces, beside_at, entries_of, index_at, place_by, place_of_key, value_at};
+ghost use Rattle.star_store.specs.Index.{IsIndexed, IsKnown, Places, PlacesAt, TextPlaces, beside_at, entries_of, held_entries, index_at, place_by, place_of_key, value_at};
 ghost use Rattle.star_store.specs.Key.{key_levels, place_of, text_place, text_value, value_of};
 ghost use Rattle.star_store.specs.Store.{look};
-ghost use Rattle.star_store.specs.declared.values.Cell.TheVariants as cell;
 ghost use Rattle.star_store.specs.Write.{cell_at};
 
 use crate::arena::{Arena, Frozen, Homes};
@@ -19,17 +18,28 @@ use crate::content::{KeyContent, Scalar, ScalarKey, content, scalar_key};
 use crate::index::Index;
 use crate::key::{place_of, place_of_scalar, value_of};
 use crate::key_index::{FEW_FAR, KeyIndex};
-use crate::values::{Cell, Entries, Value};
+use crate::values::{Entries, Value};
 use star_text::Text;
 
 impl Arena {
+    /// The entries of a dictionary or a set.
+    #[inline(always)]
+    fn entries<'a>(&'a self, homes: &'a Homes, dict: Value) -> Option<&'a Entries>
+        ensures { option_copied result ≡ held_entries (look self.now homes.now dict) }
+    {
+        match self.read(homes, dict) {
+            Some(cell) => cell.entries(),
+            None => None,
+        }
+    }
+
     /// The place of a dictionary's entry with this key; `None` if the value is not a dictionary.
     pub fn key_place(&self, homes: &Homes, dict: Value, key: Value) -> Option<usize>
         ensures { result ≡ place_of (look self.now homes.now) key (entries_of (look self.now homes.now dict)) }
     {
-        match self.read(homes, dict) {
-            Some(Cell::Dict(entries)) => self.place_among(homes, dict, entries, key),
-            _ => None,
+        match self.entries(homes, dict) {
+            Some(entries) => self.place_among(homes, dict, entries, key),
+            None => None,
         }
     }
 
@@ -38,9 +48,7 @@ impl Arena {
     pub fn key_value(&self, homes: &Homes, dict: Value, key: Value) -> Option<Value>
         ensures { result ≡ value_of (look self.now homes.now) key (entries_of (look self.now homes.now dict)) }
     {
-        let Some(Cell::Dict(entries)) = self.read(homes, dict) else {
-            return None;
-        };
+        let entries = self.entries(homes, dict)?;
         let place = self.place_among(homes, dict, entries, key)?;
         let (_key, value) = entries.get(place)?;
         Some(value)
@@ -55,7 +63,7 @@ impl Arena {
         entries: &Entries,
         key: Value,
     ) -> Option<usize>
-        requires { look self.now homes.now dict ≡ Some (cell.Dict entries.now) }
+        requires { held_entries (look self.now homes.now dict) ≡ Some entries.now }
         ensures { result ≡ place_of (look self.now homes.now) key entries.now }
     {
         match self.indexed_place(homes, dict, key) {
@@ -97,9 +105,7 @@ impl Arena {
     pub fn text_value(&self, homes: &Homes, dict: Value, text: &Text) -> Option<Value>
         ensures { result ≡ text_value (look self.now homes.now) text.now (entries_of (look self.now homes.now dict)) }
     {
-        let Some(Cell::Dict(entries)) = self.read(homes, dict) else {
-            return None;
-        };
+        let entries = self.entries(homes, dict)?;
         let place = self.text_place(homes, dict, entries, text)?;
         let (_key, value) = entries.get(place)?;
         Some(value)
@@ -113,7 +119,7 @@ impl Arena {
         entries: &Entries,
         text: &Text,
     ) -> Option<usize>
-        requires { look self.now homes.now dict ≡ Some (cell.Dict entries.now) }
+        requires { held_entries (look self.now homes.now dict) ≡ Some entries.now }
         ensures { result ≡ text_place (look self.now homes.now) text.now entries.now }
     {
         match self.indexed_text(homes, dict, text) {
@@ -144,9 +150,9 @@ impl Arena {
     pub fn dict_len(&self, homes: &Homes, dict: Value) -> usize
         ensures { result ≡ length (entries_of (look self.now homes.now dict)) }
     {
-        match self.read(homes, dict) {
-            Some(Cell::Dict(entries)) => entries.len(),
-            _ => 0,
+        match self.entries(homes, dict) {
+            Some(entries) => entries.len(),
+            None => 0,
         }
     }
 
@@ -154,9 +160,9 @@ impl Arena {
     fn dict_entry(&self, homes: &Homes, dict: Value, at: usize) -> Option<(Value, Value)>
         ensures { result ≡ slice_get (entries_of (look self.now homes.now dict)) at }
     {
-        match self.read(homes, dict) {
-            Some(Cell::Dict(entries)) => entries.get(at),
-            _ => None,
+        match self.entries(homes, dict) {
+            Some(entries) => entries.get(at),
+            None => None,
         }
     }
 
@@ -197,9 +203,9 @@ impl Arena {
     fn walked_value(&self, homes: &Homes, dict: Value, key: Value) -> Option<Value>
         ensures { result ≡ value_of (look self.now homes.now) key (entries_of (look self.now homes.now dict)) }
     {
-        match self.read(homes, dict) {
-            Some(Cell::Dict(entries)) => value_of(self, homes, key, entries),
-            _ => None,
+        match self.entries(homes, dict) {
+            Some(entries) => value_of(self, homes, key, entries),
+            None => None,
         }
     }
 

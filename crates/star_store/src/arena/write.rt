@@ -46,7 +46,7 @@ impl Change {
     {
         match cell {
             Some(Cell::List(_)) => !matches!(self, Change::Put(_, _) | Change::Delete(_)),
-            Some(Cell::Dict(_)) => {
+            Some(Cell::Dict(_)) | Some(Cell::Set(_)) => {
                 matches!(self, Change::Put(_, _) | Change::Delete(_) | Change::Clear)
             }
             _ => false,
@@ -78,7 +78,9 @@ impl Arena {
         ensures { result ≡ may_write self.now homes.now target }
     {
         match self.read(homes, target) {
-            Some(Cell::List(_)) | Some(Cell::Dict(_)) => self.may_change(target),
+            Some(Cell::List(_)) | Some(Cell::Dict(_)) | Some(Cell::Set(_)) => {
+                self.may_change(target)
+            }
             _ => Err(StoreFault::BadType),
         }
     }
@@ -207,6 +209,7 @@ fn change_in(
     match &mut counted.cell {
         Cell::List(items) => change_items(items, change),
         Cell::Dict(entries) => change_entries(entries, change, place),
+        Cell::Set(entries) => change_entries(entries, change, place),
         _ => Err(StoreFault::BadType),
     }
 }

@@ -1,6 +1,6 @@
-use Rattle.std.proofs.Common.{arith, rules, ◌≡◌, ◌<◌, ◌-◌, ◌+◌, ◌∙◌, ◌∷◌, [], ℕ, List, Bor, Some, None, IsUtf8, ap, sym, subst, true, length, map, suc, take, drop, get_or, refl}
+use Rattle.std.proofs.Common.{arith, rules, ◌≡◌, ◌<◌, ◌-◌, ◌+◌, ◌∙◌, ◌∷◌, ◌++◌, [], ℕ, List, Bor, Some, None, IsUtf8, ap, sym, subst, true, length, map, suc, take, drop, get_or, refl}
 use Rattle.std.specs.Option.{IfSome, option_copied, option_map}
-use Rattle.std.proofs.lemmas.List.{drop_all, drop_more, take_all, take_more}
+use Rattle.std.proofs.lemmas.List.{drop_all, drop_more, map-append, take_all, take_more}
 use Rattle.std.specs.Result.{IfOk}
 use Rattle.std.proofs.lemmas.Result.{IfOk-weaker}
 use Rattle.serde_json.specs.Data.{array, object}
@@ -14,7 +14,7 @@ use Rattle.star_data.specs.Data.{cell_data, cell_of, data_of, entries_data, int_
 use Rattle.star_data.specs.Paths.{AllStandInEach, StandsInEach}
 use Rattle.star_data.specs.Rows.{IsRowOf}
 use Rattle.star_data.specs.Texts.{Sends, row_data}
-use Rattle.star_data.proofs.Builds.{at_place, by_ref, data_at, data_at_none, entry_no_key, in_a_dict, in_a_list, in_a_struct, in_a_tuple, is_none, item_none, mapped_at, no_cell_data, one_back, rest_none}
+use Rattle.star_data.proofs.Builds.{at_place, by_ref, data_at, data_at_none, entry_no_key, in_a_dict, in_a_list, in_a_set, in_a_struct, in_a_tuple, is_none, item_none, mapped_at, no_cell_data, one_back, rest_none}
 use Rattle.star_data.proofs.Fields.{fields_begin, fields_end, fields_more, fields_none, from_place, rise_from}
 use Rattle.star_data.proofs.Sent.{HidesData, LeftMembers, SentItems, entry_hides_none, entry_more, found_stands, items_begin, items_end, items_more, members_begin, members_end, members_more, members_none, none_sent, says_none, says_some, sends_none, sends_some, sent_as, some_sent, stand_insert}
 use Rattle.star_data.proofs.data.+write.Goals as goal
@@ -28,6 +28,13 @@ write_cell-write_items-requires t c =
     let xs = c.as_slice.result.now in
     let is : cell_of see c.args.value ≡ Some (cell.Tuple xs) = search rules in
     (omega arith, in_a_tuple see c.args.path.now.items c.args.value xs is c.requires.path)
+
+pub write_cell-write_set-requires : goal.write_cell-write_set-requires
+write_cell-write_set-requires t c =
+    let see = look_in c.args.stores.now in
+    let es = c.as_slice-in-Some-Set.result.now in
+    let is : cell_of see c.args.value ≡ Some (cell.Set es) = search rules in
+    (omega arith, in_a_set see c.args.path.now.items c.args.value es is c.requires.path)
 
 pub write_cell-write_struct-requires : goal.write_cell-write_struct-requires
 write_cell-write_struct-requires t c =
@@ -111,6 +118,67 @@ write_items-returns-clause-data t c =
     let whole : take i xs ≡ xs = take_all i xs (omega (arith, c.loop-item-test.false, c.loop-item.auto.item-index-end)) in
     let sent : SentItems f xs c.args.out.now.tokens c.loop-item.out.tokens = subst (λ ys. SentItems f ys c.args.out.now.tokens c.loop-item.out.tokens) whole c.loop-item.invariant.sent in
     items_end f xs c.args.out.now.tokens c.loop-item.out.tokens c.end_array.new.self.tokens sent (search rules)
+
+-- ---- elements of a set
+
+-- the element at a place past the end
+abbrev no_element : Value × Value
+no_element = (NoneValue, NoneValue)
+
+pub write_set-loop-element-init : goal.write_set-loop-element-init
+write_set-loop-element-init t c =
+    let f = data_of (look_in c.args.stores.now) c.args.levels in
+    record {
+      path = search rules;
+      before = search rules;
+      sent = items_begin f c.args.out.now.tokens c.begin_array.new.self.tokens (search rules);
+    }
+
+pub write_set-write_value-requires : goal.write_set-write_value-requires
+write_set-write_value-requires t c =
+    let see = look_in c.args.stores.now in
+    let es = c.args.elements.now in
+    let i = c.loop-element.element-index in
+    let e = get_or es i no_element in
+    let less : i < length es = omega (arith, c.loop-element-test.true, c.loop-element.auto.element-index-end) in
+    (omega arith, subst (λ p. StandsInEach see p e.0) (sym c.loop-element.invariant.path) (c.requires.all i e.0 (mapped_at (λ e. e.0) es i e (at_place es i no_element less))))
+
+pub write_set-returns-then-not-branch-clause-data : goal.write_set-returns-then-not-branch-clause-data
+write_set-returns-then-not-branch-clause-data t c =
+    let see = look_in c.args.stores.now in
+    let f = data_of see c.args.levels in
+    let es = c.args.elements.now in
+    let i = c.loop-element.element-index in
+    let e = get_or es i no_element in
+    let less : i < length es = omega (arith, c.loop-element-test.true, c.loop-element.auto.element-index-end) in
+    let none : f e.0 ≡ None = none_sent _ _ _ _ c.in_ok-write_value.ensures.data (search rules) in
+    sends_none _ _ _ (ap (option_map array) (item_none f (map (λ e. e.0) es) i e.0 (mapped_at (λ e. e.0) es i e (at_place es i no_element less)) none))
+
+pub write_set-loop-element-preserved : goal.write_set-loop-element-preserved
+write_set-loop-element-preserved t c =
+    let see = look_in c.args.stores.now in
+    let f = data_of see c.args.levels in
+    let es = c.args.elements.now in
+    let i = c.loop-element.element-index in
+    let e = get_or es i no_element in
+    let less : i < length es = omega (arith, c.loop-element-test.true, c.loop-element.auto.element-index-end) in
+    let some = some_sent (f e.0) _ _ _ c.in_ok-write_value.ensures.data (search rules) in
+    let sofar : map (λ (e : Value × Value). e.0) (take (i + 1) es) ≡ map (λ (e : Value × Value). e.0) (take i es) ++ e.0 ∷ [] = ap (map (λ (e : Value × Value). e.0)) (take_more es i no_element less) ∙ map-append (λ (e : Value × Value). e.0) (take i es) (e ∷ []) in
+    record {
+      path = c.in_ok-write_value.ensures.path ∙ c.loop-element.invariant.path;
+      before = c.write_value.ensures.before ∙ c.loop-element.invariant.before;
+      sent = subst (λ ys. SentItems f ys c.args.out.now.tokens c.write_value.new.out.tokens) (sym sofar)
+          (items_more f (map (λ (e : Value × Value). e.0) (take i es)) e.0 some.0 c.args.out.now.tokens c.loop-element.out.tokens c.write_value.new.out.tokens c.loop-element.invariant.sent some.1 some.2);
+    }
+
+pub write_set-returns-clause-data : goal.write_set-returns-clause-data
+write_set-returns-clause-data t c =
+    let f = data_of (look_in c.args.stores.now) c.args.levels in
+    let es = c.args.elements.now in
+    let i = c.loop-element.element-index in
+    let whole : take i es ≡ es = take_all i es (omega (arith, c.loop-element-test.false, c.loop-element.auto.element-index-end)) in
+    let sent : SentItems f (map (λ (e : Value × Value). e.0) es) c.args.out.now.tokens c.loop-element.out.tokens = subst (λ ys. SentItems f (map (λ (e : Value × Value). e.0) ys) c.args.out.now.tokens c.loop-element.out.tokens) whole c.loop-element.invariant.sent in
+    items_end f (map (λ (e : Value × Value). e.0) es) c.args.out.now.tokens c.loop-element.out.tokens c.end_array.new.self.tokens sent (search rules)
 
 -- ---- entries
 

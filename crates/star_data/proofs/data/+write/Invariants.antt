@@ -1,4 +1,5 @@
 use Rattle.std.proofs.Common.{◌≡◌, ◌+◌, ◌*◌, drop, map, take}
+use Rattle.star_store.specs.declared.values.Value.{Value}
 use Rattle.star_data.specs.Stores.{look_in}
 use Rattle.star_data.specs.Data.{data_of, entries_data}
 use Rattle.star_data.specs.Paths.{AllStandInEach}
@@ -34,6 +35,9 @@ decreases-write_members l = 6 * l.levels + 1
 abbrev pub decreases-write_row : goal.decreases-write_row
 decreases-write_row l = 6 * l.levels + 1
 
+abbrev pub decreases-write_set : goal.decreases-write_set
+decreases-write_set l = 6 * l.levels + 4
+
 abbrev pub decreases-write_struct : goal.decreases-write_struct
 decreases-write_struct l = 6 * l.levels + 1
 
@@ -53,6 +57,13 @@ invariant-write_items-loop-item l = record {
   path : l.path.items ≡ l.fn.path.items;
   before : l.out.before ≡ l.fn.out.before;
   sent : SentItems (data_of (look_in l.stores) l.levels) (take l.item-index l.items) l.fn.out.tokens l.out.tokens;
+}
+
+abbrev pub invariant-write_set-loop-element : goal.invariant-write_set-loop-element
+invariant-write_set-loop-element l = record {
+  path : l.path.items ≡ l.fn.path.items;
+  before : l.out.before ≡ l.fn.out.before;
+  sent : SentItems (data_of (look_in l.stores) l.levels) (map (λ (e : Value × Value). e.0) (take l.element-index l.elements)) l.fn.out.tokens l.out.tokens;
 }
 
 abbrev pub invariant-write_members-loop-key : goal.invariant-write_members-loop-key

@@ -1,5 +1,5 @@
 use Rattle.std.proofs.Common.{◌≡◌, drop}
-use Rattle.star_meaning.specs.Operators.{with_entries}
+use Rattle.star_meaning.specs.Entries.{with_entries}
 use Rattle.star_machine.specs.DictBuilder.{IsGathered}
 use Rattle.star_operators.proofs.operators.union_of.Given as goal
 

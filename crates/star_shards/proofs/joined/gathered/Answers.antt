@@ -7,7 +7,7 @@ use Rattle.std.proofs.lemmas.Slice.Eq.{bytes_eq-Decides}
 use Rattle.star_shards.specs.Joined.{is_among}
 use Rattle.star_shards.specs.Read.{IsRead, by_bytes}
 use Rattle.star_shards.proofs.Gathering.{Keyed, Repeats, all_read, among_more, blank, differ, is_join, kept, keyed_insert, none_keyed, repeats_none, repeats_some}
-use Rattle.star_shards.proofs.Rows.{apart}
+use Rattle.star_shards.proofs.Bools.{apart}
 use Rattle.star_shards.proofs.joined.gathered.Goals as goal
 use Rattle.star_shards.proofs.joined.gathered.Goals.{in-Some+else-ne, in_default}
 

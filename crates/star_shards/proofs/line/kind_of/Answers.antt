@@ -4,7 +4,7 @@ use Rattle.std.specs.Str.{bytes_eq}
 use Rattle.std.proofs.lemmas.Slice.Eq.{bytes_eq-Decides}
 use Rattle.star_shards.specs.Lines.{front}
 use Rattle.star_shards.proofs.Fronts.{check_front}
-use Rattle.star_shards.proofs.Rows.{apart}
+use Rattle.star_shards.proofs.Bools.{apart}
 use Rattle.star_shards.proofs.line.kind_of.Goals as goal
 
 pub returns-then-count-eq0 : goal.returns-then-count-eq0

@@ -7,7 +7,8 @@ use Rattle.std.proofs.lemmas.List.Elements.{All-nil, All-push}
 use Rattle.std.proofs.lemmas.Slice.Eq.{bytes_eq-Decides}
 use Rattle.star_shards.specs.Read.{IsRead, IsRow, texts}
 use Rattle.star_shards.specs.declared.entry.Entry.{Entry}
-use Rattle.star_shards.proofs.Rows.{Goes, apart, empty_row, first_goes, last_entry, no_more, no_row, one_goes}
+use Rattle.star_shards.proofs.Bools.{apart}
+use Rattle.star_shards.proofs.Rows.{Goes, empty_row, first_goes, last_entry, no_more, no_row, one_goes}
 use Rattle.star_shards.proofs.line.read_row.Goals as goal
 
 pub returns-then-eq : goal.returns-then-eq

@@ -1,5 +1,5 @@
 use Rattle.std.proofs.Common.{◌≡◌, ◌≤◌, ◌+◌, ◌*◌, ◌-◌}
-use Rattle.star_store.specs.Json.{json, put_member, put_place}
+use Rattle.star_store.specs.Json.{json, put_member, put_nth, put_place}
 use Rattle.star_store.specs.Text.{all_said}
 use Rattle.star_visit.specs.Sheets.{look_in}
 use Rattle.star_visit.proofs.encode.+json.Given as goal
@@ -15,6 +15,15 @@ decreases-put_cell l = 12 * l.levels + 8
 
 abbrev pub decreases-put_array : goal.decreases-put_array
 decreases-put_array l = 12 * l.levels + 7
+
+abbrev pub decreases-put_set : goal.decreases-put_set
+decreases-put_set l = 12 * l.levels + 7
+
+abbrev pub decreases-put_elements : goal.decreases-put_elements
+decreases-put_elements l = 12 * l.levels + 4
+
+abbrev pub decreases-put_nth : goal.decreases-put_nth
+decreases-put_nth l = 12 * l.levels + 3
 
 abbrev pub decreases-put_struct : goal.decreases-put_struct
 decreases-put_struct l = 12 * l.levels + 7
@@ -56,4 +65,9 @@ invariant-put_fields-loop-i l =
 abbrev pub invariant-put_members-loop-i : goal.invariant-put_members-loop-i
 invariant-put_members-loop-i l =
     let f = put_member l.source.layout.now l.depth (json (look_in l.source) l.source.layout.now l.levels l.depth) l.members in
+    record { rest : all_said f (l.count - l.i) l.i l.sheet.out l.sheet.steps ≡ all_said f l.count 0 l.fn.sheet.out l.fn.sheet.steps; less : l.sheet.steps ≤ l.fn.sheet.steps }
+
+abbrev pub invariant-put_elements-loop-i : goal.invariant-put_elements-loop-i
+invariant-put_elements-loop-i l =
+    let f = put_nth l.source.layout.now l.depth (json (look_in l.source) l.source.layout.now l.levels l.depth) l.elements in
     record { rest : all_said f (l.count - l.i) l.i l.sheet.out l.sheet.steps ≡ all_said f l.count 0 l.fn.sheet.out l.fn.sheet.steps; less : l.sheet.steps ≤ l.fn.sheet.steps }

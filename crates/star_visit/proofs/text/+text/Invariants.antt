@@ -1,5 +1,5 @@
 use Rattle.std.proofs.Common.{◌≡◌, ◌≤◌, ◌+◌, ◌*◌, ◌-◌}
-use Rattle.star_store.specs.Text.{all_said, say_entry, say_field, say_place, text}
+use Rattle.star_store.specs.Text.{all_said, say_entry, say_field, say_nth, say_place, text}
 use Rattle.star_store.specs.Store.{look}
 use Rattle.star_visit.proofs.text.+text.Given as goal
 
@@ -23,6 +23,15 @@ decreases-put_fields l = 12 * l.levels + 4
 
 abbrev pub decreases-put_field : goal.decreases-put_field
 decreases-put_field l = 12 * l.levels + 3
+
+abbrev pub decreases-put_set : goal.decreases-put_set
+decreases-put_set l = 12 * l.levels + 7
+
+abbrev pub decreases-put_elements : goal.decreases-put_elements
+decreases-put_elements l = 12 * l.levels + 4
+
+abbrev pub decreases-put_nth : goal.decreases-put_nth
+decreases-put_nth l = 12 * l.levels + 3
 
 abbrev pub decreases-put_list : goal.decreases-put_list
 decreases-put_list l = 12 * l.levels + 7
@@ -67,4 +76,9 @@ invariant-put_entries-loop-i l =
 abbrev pub invariant-put_fields-loop-i : goal.invariant-put_fields-loop-i
 invariant-put_fields-loop-i l =
     let f = say_field (text (look l.arena l.homes) l.levels l.fn.page.path.items) l.fields in
+    record { rest : all_said f (l.count - l.i) l.i l.page.out l.page.steps ≡ all_said f l.count 0 l.fn.page.out l.fn.page.steps; less : l.page.steps ≤ l.fn.page.steps; path : l.page.path.items ≡ l.fn.page.path.items }
+
+abbrev pub invariant-put_elements-loop-i : goal.invariant-put_elements-loop-i
+invariant-put_elements-loop-i l =
+    let f = say_nth (text (look l.arena l.homes) l.levels l.fn.page.path.items) l.elements in
     record { rest : all_said f (l.count - l.i) l.i l.page.out l.page.steps ≡ all_said f l.count 0 l.fn.page.out l.fn.page.steps; less : l.page.steps ≤ l.fn.page.steps; path : l.page.path.items ≡ l.fn.page.path.items }

@@ -1,0 +1,2 @@
+-- The lines of the graph of loads.
+pub mod Line

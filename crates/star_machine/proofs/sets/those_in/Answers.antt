@@ -1,0 +1,17 @@
+use Rattle.std.proofs.Common.{◌<◌, length, sym, ◌∙◌, arith}
+use Rattle.star_store.specs.declared.values.Value.{Value}
+use Rattle.star_meaning.specs.Sets.{has_element}
+use Rattle.star_machine.proofs.Kept.{kept_next, left_next}
+use Rattle.star_machine.proofs.sets.those_in.Goals as goal
+use Rattle.star_machine.proofs.sets.those_in.Goals.{then-has+in_ok-push, else-has}
+
+pub loop-entry-preserved : goal.loop-entry-preserved
+loop-entry-preserved c =
+    let es = c.as_slice-entry-items.result.now in
+    let i = c.loop-entry.entry-index in
+    let less : i < length es = omega arith in
+    let test = λ (e : Value × Value). has_element c.args.setting.now c.args.machine.now c.args.other.now.entries e.0 in
+    elim c.if-has.branch [
+      | then-has+in_ok-push w ↦ kept_next test c.loop-entry.found _ es _ i _ less (sym c.has.ensures ∙ w.if-has.true) (w.found-is ∙ w.in_ok-push.ensures.pushed) c.loop-entry.invariant
+      | else-has w ↦ left_next test c.loop-entry.found _ es _ i _ less (sym c.has.ensures ∙ w.if-has.false) w.found-is c.loop-entry.invariant
+    ]

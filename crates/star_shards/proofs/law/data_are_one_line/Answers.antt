@@ -1,0 +1,5 @@
+use Rattle.star_shards.proofs.LineEnds as lemmas
+use Rattle.star_shards.proofs.law.data_are_one_line.Goals as goal
+
+pub returns : goal.returns
+returns c = lemmas.data_are_one_line
