@@ -554,6 +554,10 @@ impl<'a> Saying<'a> {
                 "no such key",
                 first,
             ),
+            ("remove", Some(first)) if receiver.of == Type::Set => self.with_value(
+                "no such element of the set",
+                first,
+            ),
             ("pop", Some(first)) => self.text_of(&[
                 Part::Plain("no item to pop at "),
                 Part::Shown(first.text.as_str()),

@@ -6,3 +6,4 @@ pub mod Views
 pub mod Memory
 pub mod Laws
 pub mod Disk
+pub mod Drive

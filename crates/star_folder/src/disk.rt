@@ -1,44 +1,41 @@
-//! A `Folder` on the disk.
-//!
-//! It is a thin wrapper of `fs::read_dir`, `file_type` and `File::open` with `take`, whose clauses are about its
-//! counts.
+//! A `Folder` of a disk.
 
-ghost use Rattle.std.specs.Prelude.{◌≡◌, ◌+◌, ◌^◌, ◌<◌, ◌≤◌, Err, IfOk, string_bytes, vec_len};
-ghost use Rattle.std.specs.Fs.{dir_entry_name};
+ghost use Rattle.std.specs.Prelude.{◌≡◌, ◌⊎◌, ◌+◌, ◌^◌, Err, IfOk, map, string_bytes};
 ghost use Rattle.star_label.specs.Label.{name_of};
 ghost use Rattle.star_label.specs.View.{text_of};
-ghost use Rattle.star_folder.specs.Disk.{IsOfMemory, file_at, folder_at, kind_of};
-ghost use Rattle.star_folder.specs.Folder.{has_failed, unsaid};
+ghost use Rattle.star_folder.specs.Disk.{IsOfMemory, file_at};
+ghost use Rattle.star_folder.specs.Drive.{contents_at};
+ghost use Rattle.star_folder.specs.Folder.{Reads, Says, entry_of, has_failed};
 
 use crate::folder::{FRONT, Folder, FolderError, Kind};
 use crate::path::inside;
+use crate::system::Disk;
 use star_label::label::Label;
 use std::alloc::{AllocError, Global};
 use std::collections::BTreeMap;
-use std::fs::{self, DirEntry, File, FileType};
-use std::io::{self, ErrorKind, Read};
-use std::rt::Files;
+use std::io::{self, ErrorKind};
 
-/// The folder at a path of the disk. It counts its failures. It promises nothing about its content, since no contract
-/// can say what a disk gives. A name that is not UTF-8 makes the listing of its folder fail. A link is neither a file
-/// nor a folder, but the path itself may be one.
+/// The folder at a path of a disk: it holds what the disk tells of the paths in it. It counts its failures. A name that
+/// is not UTF-8 makes the listing of its folder fail. A link is neither a file nor a folder, but the path itself may be
+/// one.
 #[derive(Drop)]
-pub struct DiskFolder<'a, R> {
-    rt: &'a R,
+pub struct DiskFolder<'a, D> {
+    disk: &'a D,
     top: &'a str,
     failed_listings: u64,
     failed_reads: u64,
 }
 
-impl<'a, R> DiskFolder<'a, R> {
+impl<'a, D> DiskFolder<'a, D> {
     /// The folder at this path. Nothing has failed yet.
-    pub fn new(rt: &'a R, top: &'a str) -> Self
+    pub fn new(disk: &'a D, top: &'a str) -> Self
+        ensures disk { result.disk.now ≡ disk.now }
         ensures top { result.top.now ≡ top.now }
         ensures listings { result.failed_listings ≡ 0 }
         ensures reads { result.failed_reads ≡ 0 }
     {
         DiskFolder {
-            rt,
+            disk,
             top,
             failed_listings: 0,
             failed_reads: 0,
@@ -46,29 +43,23 @@ impl<'a, R> DiskFolder<'a, R> {
     }
 }
 
-impl<'a, R: Files + AllocGlobal + Clone + Drop> Folder for DiskFolder<'a, R> {
-    ghost holds = { λ s. unsaid };
+impl<'a, D: Disk> Folder for DiskFolder<'a, D> {
+    ghost holds = { λ s. contents_at (D.holds s.disk.now) s.top.now };
 
     ghost failed_listings = { λ s. s.failed_listings };
 
     ghost failed_reads = { λ s. s.failed_reads };
 
     fn list(&mut self, alloc: Global, path: &str) -> Result<BTreeMap<String, Kind>, FolderError> {
-        if self.failed_listings == u64::MAX {
-            return Ok(BTreeMap::new(alloc));
-        }
-        match entries_of(self.rt, self.top, path) {
-            Ok(listing) => Ok(listing.entries),
+        match entries_of(alloc, self.disk, self.top, path) {
+            Ok(entries) => Ok(entries),
             Err(error) => counted(error, &mut self.failed_listings),
         }
     }
 
     fn read(&mut self, alloc: Global, label: &Label) -> Result<Vec<u8>, FolderError> {
-        if self.failed_reads == u64::MAX {
-            return Ok(Vec::new(alloc));
-        }
-        match front_of(self.rt, self.top, label) {
-            Ok(front) => Ok(front.bytes),
+        match front_of(alloc, self.disk, self.top, label) {
+            Ok(bytes) => Ok(bytes),
             Err(error) => counted(error, &mut self.failed_reads),
         }
     }
@@ -87,75 +78,38 @@ pub fn refused(error: io::Error) -> FolderError
 }
 
 /// The result of a call that the disk refused, for a caller that counts its failures: `Memory` if an allocation failed,
-/// which is not counted, else `Failed`, which is.
+/// which is not counted, or if the count is full; else `Failed`, which is counted.
 pub fn counted<T>(error: io::Error, failures: &mut u64) -> Result<T, FolderError>
-    requires { failures.old + 1 < 2 ^ 64 }
     ensures none { IfOk result (λ _. ⊥) }
-    ensures memory { result ≡ Err FolderError.Memory → IsOfMemory error }
+    ensures memory { result ≡ Err FolderError.Memory → IsOfMemory error ⊎ failures.old + 1 ≡ 2 ^ 64 }
     ensures failed { result ≡ Err FolderError.Failed → IsOfMemory error → ⊥ }
     ensures failures { failures.new ≡ failures.old + has_failed result }
 {
     let why = refused(error);
     if why == FolderError::Failed {
-        *failures += 1;
+        match failures.checked_add(1) {
+            Some(more) => *failures = more,
+            None => return Err(FolderError::Memory),
+        }
     }
     Err(why)
 }
 
-/// The kind of an entry, by its type.
-pub fn kind_of(found: FileType) -> Kind
-    ensures { result ≡ kind_of found }
-{
-    if found.is_file() {
-        Kind::File
-    } else if found.is_dir() {
-        Kind::Folder
-    } else {
-        Kind::Other
-    }
-}
-
-/// The name and the kind of an entry.
-fn entry_of<R: Files + AllocGlobal + Clone + Drop>(
-    alloc: Global,
-    entry: &DirEntry<R>,
-) -> io::Result<(String, Kind)>
-    ensures { IfOk result (λ e. string_bytes e.0 ≡ dir_entry_name entry.now) }
-{
-    let kind = kind_of(entry.file_type()?);
-    Ok((String::from_str(alloc, entry.file_name())?, kind))
-}
-
-/// The entries of a folder by their names, and the path at which it was listed.
-#[derive(Drop)]
-struct Listing {
-    path: String,
-    entries: BTreeMap<String, Kind>,
-}
-
-/// Lists the folder at a path.
-fn listed_at<R: Files + AllocGlobal + Clone + Drop>(rt: &R, path: String) -> io::Result<Listing>
-    ensures { IfOk result (λ listing. string_bytes listing.path ≡ string_bytes path) }
-{
-    let alloc = rt.alloc();
-    let mut entries = BTreeMap::new(alloc);
-    for entry in fs::read_dir(rt, path.as_str())? {
-        let (name, kind) = entry_of(alloc, &entry?)?;
-        entries.insert(name, kind)?;
-    }
-    Ok(Listing { path, entries })
-}
-
 /// Lists a folder of the folder at `top`.
-fn entries_of<R: Files + AllocGlobal + Clone + Drop>(
-    rt: &R,
+fn entries_of<D: Disk>(
+    alloc: Global,
+    disk: &D,
     top: &str,
     path: &str,
-) -> io::Result<Listing>
-    ensures { IfOk result (λ listing. string_bytes listing.path ≡ folder_at top.now path.now) }
+) -> io::Result<BTreeMap<String, Kind>>
+    ensures { IfOk result (λ m. Says ((contents_at (D.holds disk.now) top.now).entries path.now) (map entry_of m.entries)) }
 {
-    let path = inside(rt.alloc(), top, path)?;
-    listed_at(rt, path)
+    let path = inside(alloc, top, path)?;
+    let found = disk.list(alloc, path.as_str())?;
+    if !found.are_all {
+        return Err(io::Error::from(ErrorKind::InvalidFilename));
+    }
+    Ok(found.named)
 }
 
 /// Where the file of a label lies in the folder at `top`.
@@ -169,7 +123,7 @@ pub fn path_of(alloc: Global, top: &str, label: &Label) -> Result<String, AllocE
 }
 
 /// The name of a label: the text after its colon.
-fn name_of(label: &Label) -> &str
+pub fn name_of(label: &Label) -> &str
     ensures { result.now ≡ name_of (text_of label.now) }
 {
     match label.text().split_once(':') {
@@ -178,46 +132,13 @@ fn name_of(label: &Label) -> &str
     }
 }
 
-/// The first bytes of a file, and the path at which it was opened.
-#[derive(Drop)]
-pub struct Front {
-    pub path: String,
-    pub bytes: Vec<u8>,
-}
-
-/// Reads at most `most` of the first bytes of the file at a path. `size` is a guess of how many bytes it has.
-pub fn front_of_size<R: Files + AllocGlobal>(
-    rt: &R,
-    path: String,
-    most: usize,
-    size: u64,
-) -> io::Result<Front>
-    ensures path { IfOk result (λ front. string_bytes front.path ≡ string_bytes path) }
-    ensures few { IfOk result (λ front. vec_len front.bytes ≤ most) }
-{
-    let file = File::open(rt, path.as_str())?;
-    // With room for one byte more than the file has, one read finds all of it, and one its end.
-    let room = size.saturating_add(1).min(most as u64);
-    let mut bytes = Vec::with_capacity(rt.alloc(), room as usize)?;
-    file.take(most as u64).read_to_end(&mut bytes)?;
-    bytes.truncate(most);
-    Ok(Front { path, bytes })
-}
-
-/// Reads at most `most` of the first bytes of the file at a path.
-pub fn front_at<R: Files + AllocGlobal>(rt: &R, path: String, most: usize) -> io::Result<Front>
-    ensures path { IfOk result (λ front. string_bytes front.path ≡ string_bytes path) }
-    ensures few { IfOk result (λ front. vec_len front.bytes ≤ most) }
-{
-    let size = fs::metadata(rt, path.as_str())?.len();
-    front_of_size(rt, path, most, size)
-}
-
 /// The first 1,048,577 bytes of the file of a label in the folder at `top`.
-fn front_of<R: Files + AllocGlobal>(rt: &R, top: &str, label: &Label) -> io::Result<Front>
-    ensures path { IfOk result (λ front. string_bytes front.path ≡ file_at top.now (text_of label.now)) }
-    ensures few { IfOk result (λ front. vec_len front.bytes ≤ 1048577) }
+fn front_of<D: Disk>(alloc: Global, disk: &D, top: &str, label: &Label) -> io::Result<Vec<u8>>
+    ensures { IfOk result (λ bytes. Reads ((contents_at (D.holds disk.now) top.now).bytes (text_of label.now)) bytes.items) }
 {
-    let path = path_of(rt.alloc(), top, label)?;
-    front_at(rt, path, FRONT)
+    let path = path_of(alloc, top, label)?;
+    match disk.size(path.as_str())? {
+        Some(size) => disk.read(alloc, path.as_str(), FRONT, size),
+        None => Err(io::Error::from(ErrorKind::NotFound)),
+    }
 }

@@ -28,6 +28,9 @@ pub(crate) struct Miss {
 /// The part that is expected where a statement could end.
 pub(crate) const LINE_END: &str = "the end of the line";
 
+/// The part that is expected after the key of an entry of a dictionary.
+pub(crate) const ENTRY_VALUE: &str = "`:` and the value of the key";
+
 /// How many wants are read for a token, at most.
 const WANTS: usize = 20;
 

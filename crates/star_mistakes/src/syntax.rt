@@ -1,6 +1,6 @@
 //! The message for the first token that the grammar does not read.
 
-use crate::grammar::{LINE_END, Miss, first_miss};
+use crate::grammar::{ENTRY_VALUE, LINE_END, Miss, first_miss};
 use crate::message::Part;
 use crate::message::Part::{Number, Plain, Shown};
 use crate::mistake::Mistake;
@@ -76,6 +76,9 @@ const NO_TASKS: &str = "a call is over when it returns: leave the word out";
 
 const CONFLICT: &str =
     "a merge left both versions here: keep one of them, and none of the lines `<<<<<<<`, `=======`, `>>>>>>>`";
+
+const SETS: &str =
+    "an entry of a dict is written `key: value`; a set is `set([1, 2])`, with `--language extended`";
 
 /// The help for a name before a token that the grammar does not read.
 const NAMES: &[(&'static str, &'static str)] = &[
@@ -464,6 +467,16 @@ impl<'a> Spot<'a> {
         }
     }
 
+    /// Whether the token follows the key of an entry of a dictionary, and ends the entry without a value.
+    fn ends_key(self) -> bool {
+        self.miss.wanted == ENTRY_VALUE
+            && matches!(
+                self.token.kind,
+                Kind::Punctuator(Punctuator::Comma | Punctuator::RightBrace)
+                    | Kind::Keyword(Keyword::For)
+            )
+    }
+
     /// The mistake of a sign that newcomers write in a place where it cannot be.
     fn of_sign(self, sign: Punctuator) -> Option<&'static str> {
         match sign {
@@ -502,6 +515,7 @@ impl<'a> Spot<'a> {
     /// The help for a token that has no form of its own.
     fn help(self) -> Option<&'static str> {
         match self.token.kind {
+            _ if self.ends_key() => Some(SETS),
             Kind::Punctuator(sign) => self.of_sign(sign),
             Kind::Keyword(Keyword::If) if self.follows_else() => Some("write `elif`"),
             _ => None,

@@ -13,3 +13,4 @@ pub mod Ended
 pub mod Turns
 pub mod SameWords
 pub mod Texts
+mod Fronts

@@ -10,10 +10,6 @@ Held = List ℕ → Option (List ℕ)
 abbrev pub Said : Type 0
 Said = List ℕ → Option (Option (List ℕ))
 
--- a folder that says nothing
-abbrev pub unsaid : Said
-unsaid label = None
-
 abbrev pub Tells : Option (Option (List ℕ)) → Option (List ℕ) → Type 0
 Tells None found = ⊤
 Tells (Some all) found = found ≡ all

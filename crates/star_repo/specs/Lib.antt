@@ -11,3 +11,4 @@ pub mod Way
 pub mod Views
 pub mod Turn
 pub mod Asked
+pub mod Below

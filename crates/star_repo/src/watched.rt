@@ -1,28 +1,28 @@
 //! A `Repo` on the disk that keeps why labels have no file, if a path leads to one that is none of the folder.
 
 ghost use Rattle.std.specs.Prelude.{◌≡◌, []};
-ghost use Rattle.star_repo.specs.Held.{unsaid};
+ghost use Rattle.star_repo.specs.Below.{files_at};
 
 use crate::disk::DiskRepo;
 use crate::repo::Repo;
 use star_folder::folder::FolderError;
+use star_folder::system::Disk;
 use star_label::label::Label;
 use star_words::pattern::{Apart, Listing};
 use std::alloc::Global;
-use std::rt::Files;
 
 /// A folder of the disk, and the first labels that it has no file for, by where their paths lead.
 #[derive(Drop)]
-pub struct WatchedRepo<'a, R> {
-    folder: DiskRepo<'a, R>,
+pub struct WatchedRepo<'a, D> {
+    folder: DiskRepo<'a, D>,
     /// The most labels that are kept.
     most: usize,
     apart: Vec<(Label, Apart)>,
 }
 
-impl<'a, R: Files + AllocGlobal + Clone + Drop> WatchedRepo<'a, R> {
+impl<'a, D: Disk> WatchedRepo<'a, D> {
     /// This folder. It keeps at most `most` labels, and none yet.
-    pub fn new(alloc: Global, folder: DiskRepo<'a, R>, most: usize) -> Self
+    pub fn new(alloc: Global, folder: DiskRepo<'a, D>, most: usize) -> Self
         ensures folder { result.folder ≡ folder.entry }
         ensures most { result.most ≡ most }
         ensures none { result.apart.items ≡ [] }
@@ -58,8 +58,8 @@ impl<'a, R: Files + AllocGlobal + Clone + Drop> WatchedRepo<'a, R> {
     }
 }
 
-impl<'a, R: Files + AllocGlobal + Clone + Drop> Repo for WatchedRepo<'a, R> {
-    ghost says = { λ s. unsaid };
+impl<'a, D: Disk> Repo for WatchedRepo<'a, D> {
+    ghost says = { λ s. files_at (D.holds s.folder.disk.now) s.folder.top.path.now s.folder.top.real.now s.folder.top.links };
 
     ghost failed = { λ s. s.folder.failed };
 

@@ -2,10 +2,12 @@
 
 use crate::repo::{Refusal, RepoAsked};
 use star_bundle::error::ServeError;
+use star_folder::system::SystemDisk;
 use star_label::label::Label;
-use star_repo::disk::{DiskRepo, Top};
+use star_repo::disk::DiskRepo;
 use star_repo::error::RepoError;
 use star_repo::text::text_at;
+use star_repo::top::Top;
 use star_words::exclude::patterns_in;
 use star_words::pattern::{Filter, files_below, label_below};
 use std::alloc::{AllocError, Global};
@@ -54,7 +56,8 @@ pub(crate) fn left_out(
 ) -> Result<Vec<String>, Refusal> {
     let mut patterns = copied(alloc, asked.left_out.as_slice())?;
     let label = Label::read(alloc, IGNORED, "")?;
-    let mut folder = DiskRepo::new(rt, top);
+    let disk = SystemDisk::new(rt);
+    let mut folder = DiskRepo::new(&disk, top);
     match text_at(alloc, &mut folder, &label) {
         Ok(Some(text)) => {
             if text.len() > IGNORED_BYTES {
@@ -89,7 +92,8 @@ impl<'a> Below<'a> {
         let Some(label) = label_below(alloc, self.here, front)? else {
             return Ok(BTreeSet::new(alloc));
         };
-        let mut folder = DiskRepo::new(rt, self.top);
+        let disk = SystemDisk::new(rt);
+        let mut folder = DiskRepo::new(&disk, self.top);
         match files_below(alloc, &mut folder, label.package(), self.filter) {
             Ok(found) => Ok(found),
             Err(ServeError::BadDir) => {
@@ -110,7 +114,8 @@ impl<'a> Below<'a> {
         if !self.keeps_going {
             return Ok(None);
         }
-        let mut folder = DiskRepo::new(rt, self.top);
+        let disk = SystemDisk::new(rt);
+        let mut folder = DiskRepo::new(&disk, self.top);
         match text_at(alloc, &mut folder, label) {
             Ok(_) => Ok(None),
             Err(ServeError::Memory) => Err(Refusal::from(ServeError::Memory)),

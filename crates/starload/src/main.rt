@@ -34,6 +34,7 @@ use roots::{further_roots, say_no_roots};
 use star_bundle::error::{ServeError, status};
 use star_folder::disk::DiskFolder;
 use star_folder::folder::Folder;
+use star_folder::system::SystemDisk;
 use star_hint::bundle::about_bundle;
 use star_hint::folder::about_folder;
 use star_mistakes::place::shown;
@@ -222,7 +223,8 @@ fn report_folder<H: Threads + Wait + Sync>(
     requires loaders { (1 ≤ options.now.loaders) × (options.now.loaders ≤ 64) }
     requires steps { (1 ≤ options.now.mode.steps) × (options.now.mode.steps ≤ 100000000) }
 {
-    let mut folder = DiskFolder::new(rt, dir);
+    let disk = SystemDisk::new(rt);
+    let mut folder = DiskFolder::new(&disk, dir);
     let mut streams = Streams::of(rt, options);
     let (report, said) = (&mut streams.report, &mut streams.said);
     let outcome = serve_dir(threads, alloc, &mut folder, report, said, options);

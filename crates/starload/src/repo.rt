@@ -10,11 +10,13 @@ use crate::graph::print_graph;
 use crate::streams::{Streams, is_for_tools};
 use clap::ArgMatches;
 use star_bundle::error::{ServeError, status};
+use star_folder::system::SystemDisk;
 use star_hint::missing::{about_apart, about_file, about_labels};
 use star_label::error::LabelError;
 use star_label::label::Label;
-use star_repo::disk::{DiskRepo, Links, Top};
+use star_repo::disk::DiskRepo;
 use star_repo::error::RepoError;
+use star_repo::top::{Links, Top};
 use star_repo::wanting::{LoadAt, wanting};
 use star_repo::watched::WatchedRepo;
 use star_serve::repo::serve_repo;
@@ -344,7 +346,8 @@ fn load_for<H: Wait>(
     let words = asked_labels(alloc, options.roots.as_slice(), options.prelude.as_ref()).ok()?;
     // The process ends next, and the system takes back all of its memory at once.
     let trees: ManuallyDrop<boxcar::Vec<Tree>> = ManuallyDrop::new(boxcar::Vec::new(alloc).ok()?);
-    let mut folder = DiskRepo::new(rt, top);
+    let disk = SystemDisk::new(rt);
+    let mut folder = DiskRepo::new(&disk, top);
     match wanting(threads, alloc, &mut folder, &*trees, words, label) {
         Ok(load) => load,
         Err(_) => None,
@@ -361,7 +364,8 @@ fn about_for(
     error: &RepoError,
 ) -> Option<String> {
     options.explain?;
-    let mut folder = DiskRepo::new(rt, top);
+    let disk = SystemDisk::new(rt);
+    let mut folder = DiskRepo::new(&disk, top);
     match error {
         RepoError::File { label, error } if *error == ServeError::BadFile => {
             about_file(alloc, &mut folder, label).ok()?
@@ -428,7 +432,8 @@ fn listed(
     are_all: bool,
 ) -> Result<bool, Refusal> {
     let labels = asked_labels(alloc, options.roots.as_slice(), options.prelude.as_ref())?;
-    print_graph(rt, alloc, &mut DiskRepo::new(rt, top), labels)?;
+    let disk = SystemDisk::new(rt);
+    print_graph(rt, alloc, &mut DiskRepo::new(&disk, top), labels)?;
     Ok(are_all)
 }
 
@@ -463,7 +468,8 @@ fn reported<H: Threads + Wait + Sync>(
         return listed(rt, alloc, top, &options, left_out.is_empty());
     }
     let most = most_told(&options);
-    let mut folder = WatchedRepo::new(alloc, DiskRepo::new(rt, top), most);
+    let disk = SystemDisk::new(rt);
+    let mut folder = WatchedRepo::new(alloc, DiskRepo::new(&disk, top), most);
     let mut streams = Streams::of(rt, &options);
     let (report, said) = (&mut streams.report, &mut streams.said);
     match serve_repo(threads, alloc, &mut folder, report, said, &options) {

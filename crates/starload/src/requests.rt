@@ -5,7 +5,9 @@ ghost use Rattle.std.specs.Prelude.{◌≤◌};
 use crate::repo::links_of;
 use clap::ArgMatches;
 use star_bundle::error::ServeError;
-use star_repo::disk::{DiskRepo, Links, Top};
+use star_folder::system::SystemDisk;
+use star_repo::disk::DiskRepo;
+use star_repo::top::{Links, Top};
 use star_serve::ends::{CountedReader, CountedWriter};
 use star_serve::serve::{Options, Output, Wanted};
 use star_session::request::{Defaults, Origin};
@@ -132,7 +134,8 @@ pub(crate) fn answer_requests<H: Threads + Wait + Sync>(
         real: real.as_str(),
         links,
     };
-    let folder = DiskRepo::new(rt, top);
+    let disk = SystemDisk::new(rt);
+    let folder = DiskRepo::new(&disk, top);
     let mut reader = CountedReader::new(rt.stdin());
     let mut writer = CountedWriter::new(rt.stdout());
     match serve_requests(threads, alloc, &folder, &mut reader, &mut writer, &settings) {

@@ -1,8 +1,8 @@
 //! The reading of expressions: operands, calls, parameters, targets, clauses and displays.
 
 use crate::grammar::{
-    Bracket, FIRST, OR, Order, Part, Reader, Shape, Want, begins_expression, is_comparator,
-    is_operator, joined,
+    Bracket, ENTRY_VALUE, FIRST, OR, Order, Part, Reader, Shape, Want, begins_expression,
+    is_comparator, is_operator, joined,
 };
 use star_lex::token::{Keyword, Kind, Punctuator};
 use std::alloc::AllocError;
@@ -459,7 +459,7 @@ impl<'a> Reader<'a> {
     }
 
     pub(super) fn entry_value(&mut self, is_first: bool) -> Result<(), AllocError> {
-        if !self.want(Punctuator::Colon, "`:` and the value of the key") {
+        if !self.want(Punctuator::Colon, ENTRY_VALUE) {
             return Ok(());
         }
         self.then(&[Want::Test, Want::Part(Part::EntriesRest { is_first })])
