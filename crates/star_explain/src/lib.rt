@@ -4,8 +4,9 @@
 //! (`entry`): a static fault (`star_mistakes`), a run that stopped, a cycle of loads (`cycles`). Files that fail by a
 //! load are counted under the cause to which their loads lead. `trail` finds where a run stopped, and by which calls.
 //! If it is known what a fault is about, `words` finds the word (`stretches` the tokens of the expression that has it),
-//! and `texts` says what is wrong with it (`built_ins` has the arguments that built-in functions take, `fields` the
-//! fields of formats, `instead` what to write in place of what is missing). Else the text comes from `pages`, which has the meaning of each code.
+//! and `texts` says what is wrong with it (`calls` in calls of built-in functions, whose arguments `built_ins` has;
+//! `fields` has the fields of formats), and `cures` what to do (`instead` has what to write in place of what is
+//! missing). Else the text comes from `pages`, which has the meaning of each code.
 //!
 //! - `Form` says for whom (`tools` has the forms of GitHub and SARIF), which entries are shown, how files are named, and
 //!   whether there are colours (`paint`).
@@ -16,6 +17,8 @@
 #![tactic(auto)]
 
 mod built_ins;
+mod calls;
+mod cures;
 mod cycles;
 mod ends;
 mod entry;

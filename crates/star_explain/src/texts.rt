@@ -1,24 +1,13 @@
 //! The texts on faults whose part and values are known.
 
-use crate::built_ins::{Wanted, count, is_extended, methods, wanted_by};
-use crate::fields::{CONVERSIONS, has_conversion, is_unknown, of_format, taken_by};
-use crate::instead::{of_arguments, of_method};
+use crate::calls::{BuiltInCall, has_further};
+use crate::fields::taken_by;
 use crate::words::unquoted;
 use star_dialect::Dialect;
 use star_found::about::{About, Found, Misfit, Shown, Type};
 use star_meaning::fault::FaultCode;
 use star_mistakes::message::{Part, message, push_message};
-use star_mistakes::near::did_you_mean;
 use std::alloc::{AllocError, Global};
-
-/// What `json.encode` and `json.encode_indent` take, after the name of the function.
-const NO_JSON: &str =
-    "` takes None, bools, ints, strings, lists, tuples, structs, and dicts whose keys are strings";
-
-const IN_LINES: &str = "` takes what `json.encode` takes, and strings as `prefix` and `indent`";
-
-/// How many parameters of a function are listed.
-const LISTED: usize = 12;
 
 /// A text, and the cure.
 #[derive(Drop)]
@@ -41,18 +30,8 @@ pub(crate) struct Saying<'a> {
     pub bound_on: Option<usize>,
 }
 
-/// A call of a built-in function, or of a method: the values that were found, and how many arguments are given.
-#[derive(Clone, Copy)]
-struct BuiltInCall<'x> {
-    name: &'x str,
-    receiver: Option<&'x Shown>,
-    first: Option<&'x Shown>,
-    second: Option<&'x Shown>,
-    given: usize,
-}
-
 /// The name of the type of a value, with its article.
-fn with_article(value: &Shown) -> &'static str {
+pub(crate) fn with_article(value: &Shown) -> &'static str {
     match value.of {
         Type::Int => "an int",
         Type::Text => "a string",
@@ -72,7 +51,7 @@ fn with_article(value: &Shown) -> &'static str {
 }
 
 /// The text of a value; empty for `Nothing`, which a program cannot have.
-fn told_text(value: &Shown) -> &str {
+pub(crate) fn told_text(value: &Shown) -> &str {
     match value.of {
         Type::Nothing => "",
         _ => value.text.as_str(),
@@ -80,7 +59,7 @@ fn told_text(value: &Shown) -> &str {
 }
 
 /// A colon before the text of a value, if the text is not empty.
-fn colon(value: &Shown) -> &'static str {
+pub(crate) fn colon(value: &Shown) -> &'static str {
     if told_text(value).is_empty() {
         ""
     } else {
@@ -88,54 +67,14 @@ fn colon(value: &Shown) -> &'static str {
     }
 }
 
-/// The type of a value, if there is one.
-fn type_of(value: Option<&Shown>) -> Option<Type> {
-    match value {
-        Some(value) => Some(value.of),
-        None => None,
-    }
-}
-
-/// The value, if it is not of the kind that is needed.
-fn unmet<'v>(wanted: Wanted, value: Option<&'v Shown>) -> Option<&'v Shown> {
-    match value {
-        Some(value) if !wanted.is_met(value.of) => Some(value),
-        _ => None,
-    }
-}
-
-/// The help for a slice of a range in the core language.
-const RANGES: &str =
-    "the extended language slices ranges: `--language extended`; here write `range` with other bounds";
-
-/// Whether a dialect is the extended one.
-fn has_further(dialect: Dialect) -> bool {
-    match dialect {
-        Dialect::Core => false,
-        Dialect::Extended => true,
-    }
-}
-
-/// Whether a built-in function takes this name in the extended language.
-fn is_further(function: &str, name: &str) -> bool {
-    match name {
-        "key" => matches!(function, "sorted" | "max" | "min"),
-        "base" => function == "int",
-        _ => false,
-    }
-}
-
-/// The help for an item of a dictionary that is no pair.
-const ITEMS: &str = "a loop over a dict takes its keys: write `for k, v in d.items()`";
-
 impl<'a> Saying<'a> {
     /// A text of these parts.
-    fn text_of(self, parts: &[Part]) -> Result<Option<String>, AllocError> {
+    pub(crate) fn text_of(self, parts: &[Part]) -> Result<Option<String>, AllocError> {
         Ok(Some(message(self.alloc, parts)?))
     }
 
     /// A word between two texts.
-    fn with_word<'x>(
+    pub(crate) fn with_word<'x>(
         self,
         front: &'x str,
         word: &'x str,
@@ -145,7 +84,11 @@ impl<'a> Saying<'a> {
     }
 
     /// A text, and after a colon the text of a value.
-    fn with_value<'x>(self, text: &'x str, value: &'x Shown) -> Result<Option<String>, AllocError> {
+    pub(crate) fn with_value<'x>(
+        self,
+        text: &'x str,
+        value: &'x Shown,
+    ) -> Result<Option<String>, AllocError> {
         self.text_of(&[
             Part::Plain(text),
             Part::Plain(colon(value)),
@@ -174,7 +117,7 @@ impl<'a> Saying<'a> {
     }
 
     /// The text on a write to a value.
-    fn written(self, value: &Shown) -> Result<Option<String>, AllocError> {
+    pub(crate) fn written(self, value: &Shown) -> Result<Option<String>, AllocError> {
         let text = match self.code {
             FaultCode::Frozen => " of another file is frozen, and cannot be changed",
             FaultCode::Iterating => " cannot be changed while a loop goes over it",
@@ -329,7 +272,7 @@ impl<'a> Saying<'a> {
     }
 
     /// A sign between two texts, and a value with its type.
-    fn before_typed<'x>(
+    pub(crate) fn before_typed<'x>(
         self,
         front: &'x str,
         sign: &'x str,
@@ -413,201 +356,6 @@ impl<'a> Saying<'a> {
         }
     }
 
-    /// The text on an argument that a built-in function does not take.
-    fn argument<'x>(
-        self,
-        name: &'x str,
-        wanted: Wanted,
-        value: &'x Shown,
-    ) -> Result<Option<String>, AllocError> {
-        self.text_of(&[
-            Part::Plain("`"),
-            Part::Plain(name),
-            Part::Plain("` takes "),
-            Part::Plain(wanted.text()),
-            Part::Plain(", not "),
-            Part::Plain(with_article(value)),
-            Part::Plain(colon(value)),
-            Part::Shown(told_text(value)),
-        ])
-    }
-
-    /// A built-in function, a text, and after a colon the text of a value.
-    fn of_built_in<'x>(
-        self,
-        name: &'x str,
-        text: &'x str,
-        value: Option<&'x Shown>,
-    ) -> Result<Option<String>, AllocError> {
-        let front = [Part::Plain("`"), Part::Plain(name), Part::Plain(text)];
-        let mut all = message(self.alloc, &front)?;
-        if let Some(value) = value {
-            let told = [Part::Plain(colon(value)), Part::Shown(told_text(value))];
-            push_message(&mut all, &told)?;
-        }
-        Ok(Some(all))
-    }
-
-    /// A wrong type in a call of a built-in function or of a method.
-    fn built_in_type(self, call: BuiltInCall) -> Result<Option<String>, AllocError> {
-        let has_base = has_further(self.dialect) && call.given > 1;
-        let (one, two) = wanted_by(call.name, type_of(call.receiver), has_base);
-        if let Some(value) = unmet(one, call.first) {
-            return self.argument(call.name, one, value);
-        }
-        if let Some(value) = unmet(two, call.second) {
-            return self.argument(call.name, two, value);
-        }
-        if call.first.is_none() {
-            return Ok(None);
-        }
-        if let ("getattr", Some(value), Some(name)) = (call.name, call.first, call.second) {
-            return self.no_attribute(unquoted(name.text.as_str()), value);
-        }
-        let text = match call.name {
-            "join" => "` takes strings alone",
-            "dict" | "update" => "` takes a dict, or an iterable of pairs",
-            "sorted" => self.ordered_items(),
-            "json.encode" => NO_JSON,
-            "json.encode_indent" => IN_LINES,
-            "max" | "min" => return self.ordered(call),
-            "print" | "fail" => {
-                return match call.first {
-                    Some(first) => {
-                        self.before_typed("`", call.name, "` takes a string as `sep`, not ", first)
-                    }
-                    None => Ok(None),
-                };
-            }
-            _ => "` does not take this",
-        };
-        self.of_built_in(call.name, text, call.first)
-    }
-
-    /// What `sorted`, `max` and `min` take.
-    fn ordered_items(self) -> &'static str {
-        match self.dialect {
-            Dialect::Core => "` takes ints alone or strings alone",
-            Dialect::Extended => "` takes items that have an order, and as `key` a function",
-        }
-    }
-
-    /// The values that have no order, in a call of `max` or `min`.
-    fn ordered(self, call: BuiltInCall) -> Result<Option<String>, AllocError> {
-        let text = self.ordered_items();
-        let (Some(first), Some(second)) = (call.first, call.second) else {
-            return self.of_built_in(call.name, text, call.first);
-        };
-        self.text_of(&[
-            Part::Plain("`"),
-            Part::Plain(call.name),
-            Part::Plain(text),
-            Part::Plain(": "),
-            Part::Shown(told_text(first)),
-            Part::Plain(", "),
-            Part::Shown(told_text(second)),
-        ])
-    }
-
-    /// A text, and after a colon the text of a value if there is one.
-    fn with_first(self, text: &str, first: Option<&Shown>) -> Result<Option<String>, AllocError> {
-        match first {
-            Some(first) => self.with_value(text, first),
-            None => self.text_of(&[Part::Plain(text)]),
-        }
-    }
-
-    /// A value in a call of a built-in function or of a method that does not suit.
-    fn built_in_value(self, call: BuiltInCall) -> Result<Option<String>, AllocError> {
-        let first = call.first;
-        match call.name {
-            "int" => self.with_first("`int` reads no number here", first),
-            "ord" => self.with_first("`ord` takes a string of one character", first),
-            "chr" => self.with_first("no character has this number", first),
-            "json.decode" => self.with_first(
-                "`json.decode` takes JSON whose numbers are ints",
-                first,
-            ),
-            "range" => self.with_first("the step of a `range` cannot be 0", None),
-            "max" | "min" => self.of_built_in(call.name, "` of nothing", first),
-            "index" | "remove" => self.with_first("no item of the list is equal", first),
-            "split" => self.with_first("`split` by an empty string", None),
-            "replace" => self.with_first("`replace` of an empty string", None),
-            "dict" | "update" => self.with_first("each item has to be a pair", first),
-            "format" if call.receiver.is_some() => {
-                self.with_first("a field of the format is wrong", call.receiver)
-            }
-            _ => Ok(None),
-        }
-    }
-
-    /// A place or a key in a call of a method that is not there.
-    fn built_in_lack(
-        self,
-        name: &str,
-        receiver: &Shown,
-        first: Option<&Shown>,
-    ) -> Result<Option<String>, AllocError> {
-        match (name, first) {
-            ("format", _) => self.with_value("a field of the format gets no value", receiver),
-            ("pop", Some(first)) if receiver.of == Type::Dict => self.with_value(
-                "no such key",
-                first,
-            ),
-            ("remove", Some(first)) if receiver.of == Type::Set => self.with_value(
-                "no such element of the set",
-                first,
-            ),
-            ("pop", Some(first)) => self.text_of(&[
-                Part::Plain("no item to pop at "),
-                Part::Shown(first.text.as_str()),
-            ]),
-            (_, None) => self.text_of(&[
-                Part::Plain("`"),
-                Part::Plain(name),
-                Part::Plain("` of an empty "),
-                Part::Plain(receiver.type_name()),
-            ]),
-            _ => Ok(None),
-        }
-    }
-
-    /// A wrong number of arguments in a call of a built-in function, or of a method.
-    fn built_in_count(self, call: BuiltInCall) -> Result<Option<String>, AllocError> {
-        let count = count(self.dialect, call.name, type_of(call.receiver));
-        self.text_of(&[
-            Part::Plain("`"),
-            Part::Plain(call.name),
-            Part::Plain("` takes "),
-            Part::Plain(count),
-            Part::Plain(", and is given "),
-            Part::Number(call.given),
-        ])
-    }
-
-    /// A call of a built-in function, or of a method.
-    fn built_in(self, call: BuiltInCall) -> Result<Option<String>, AllocError> {
-        match (self.code, call.receiver, call.first) {
-            (FaultCode::Args, _, _) => self.built_in_count(call),
-            (FaultCode::BadType, _, _) => self.built_in_type(call),
-            (FaultCode::BadValue, _, _) => self.built_in_value(call),
-            (FaultCode::Overflow, _, Some(first)) => self.with_value(
-                "an int outside of 64 bits",
-                first,
-            ),
-            (FaultCode::Overflow, _, None) => Ok(None),
-            (FaultCode::Index | FaultCode::Key, Some(receiver), _) => {
-                self.built_in_lack(call.name, receiver, call.first)
-            }
-            (FaultCode::Key, None, Some(first)) if call.name == "json.decode" => {
-                self.with_value("a name comes twice in an object of the JSON", first)
-            }
-            (FaultCode::Index | FaultCode::Key, None, _) => Ok(None),
-            (_, Some(receiver), _) => self.written(receiver),
-            _ => Ok(None),
-        }
-    }
-
     /// The text on a key that comes twice in a display, or on a value that cannot be a key.
     fn key(self, key: &Shown) -> Result<Option<String>, AllocError> {
         if self.code != FaultCode::Key {
@@ -658,7 +406,7 @@ impl<'a> Saying<'a> {
     }
 
     /// The text on an attribute that a value does not have: a struct has fields, `json` members, and others have methods.
-    fn no_attribute<'x>(
+    pub(crate) fn no_attribute<'x>(
         self,
         name: &'x str,
         value: &'x Shown,
@@ -708,166 +456,6 @@ impl<'a> Saying<'a> {
                 second: second.as_ref(),
                 given: *given,
             }),
-        }
-    }
-
-    /// The name that was probably meant by a word, among the names that were found.
-    fn near(self, word: &str) -> Result<Option<String>, AllocError> {
-        let mut names = Vec::new(self.alloc);
-        for name in &self.found.names {
-            names.push(name.as_str())?;
-        }
-        did_you_mean(self.alloc, word, names.as_slice())
-    }
-
-    /// The names of the parameters of a function.
-    fn parameters(self) -> Result<Option<String>, AllocError> {
-        let names = self.found.names.as_slice();
-        if names.is_empty() {
-            return Ok(None);
-        }
-        let mut text = String::from_str(self.alloc, "its parameters are ")?;
-        for (i, name) in names.iter().take(LISTED).enumerate() {
-            if i > 0 {
-                text.push_str(", ")?;
-            }
-            text.push_str(name.as_str())?;
-        }
-        if names.len() > LISTED {
-            text.push_str(", ..")?;
-        }
-        Ok(Some(text))
-    }
-
-    /// The cure of a key or an index that is not there.
-    fn lacking(self) -> Result<Option<String>, AllocError> {
-        let help = match &self.found.about {
-            About::Key { .. } => "take one of the two entries out",
-            About::Index { .. } if self.code == FaultCode::Index => {
-                "indexes go from 0 to the length less 1, or from -1 down to minus the length"
-            }
-            About::Index { .. } => "ask by `get(key, default)` or `key in d`",
-            _ => return Ok(None),
-        };
-        Ok(Some(String::from_str(self.alloc, help)?))
-    }
-
-    /// The cure of operands that have no meaning.
-    fn converted(
-        self,
-        sign: &str,
-        left: &Shown,
-        right: &Shown,
-    ) -> Result<Option<String>, AllocError> {
-        let are_mixed = matches!(
-            (left.of, right.of),
-            (Type::Text, Type::Int) | (Type::Int, Type::Text)
-        );
-        if self.code != FaultCode::BadType || !sign.starts_with('+') || !are_mixed {
-            return Ok(None);
-        }
-        let help = "`str(x)` makes a string of a value, `int(x)` an int of a string";
-        Ok(Some(String::from_str(self.alloc, help)?))
-    }
-
-    /// The cure of arguments that do not fit.
-    fn fitting(self, callee: &Shown, misfit: &Misfit) -> Result<Option<String>, AllocError> {
-        if let Misfit::Unknown(word) = misfit {
-            if callee.of == Type::BuiltIn && is_further(callee.text.as_str(), word.as_str()) {
-                if let Some(help) = of_arguments(self.dialect, callee.text.as_str(), 1) {
-                    return self.known(Some(help));
-                }
-            }
-            if let Some(help) = self.near(word.as_str())? {
-                return Ok(Some(help));
-            }
-        }
-        self.parameters()
-    }
-
-    /// A help for the core language alone.
-    fn of_core(self, help: &'static str) -> Result<Option<String>, AllocError> {
-        match self.dialect {
-            Dialect::Core => self.known(Some(help)),
-            Dialect::Extended => Ok(None),
-        }
-    }
-
-    /// A help that is known beforehand.
-    fn known(self, help: Option<&'static str>) -> Result<Option<String>, AllocError> {
-        match help {
-            Some(help) => Ok(Some(String::from_str(self.alloc, help)?)),
-            None => Ok(None),
-        }
-    }
-
-    /// The cure of an attribute that a value does not have.
-    fn attribute(self, name: &str, kind: Type) -> Result<Option<String>, AllocError> {
-        if matches!(kind, Type::Struct | Type::Module) {
-            return self.near(name);
-        }
-        match (of_method(kind, name), is_extended(name, kind)) {
-            (Some(help), true) => {
-                return self.with_word(help, "", "; `--language extended` has it");
-            }
-            (None, true) => {
-                return self.known(Some("the extended language has it: `--language extended`"));
-            }
-            (Some(help), false) => return self.known(Some(help)),
-            (None, false) => {}
-        }
-        match did_you_mean(self.alloc, name, methods(kind))? {
-            None if kind == Type::Dict => self.with_word("a key is read as `[\"", name, "\"]`"),
-            meant => Ok(meant),
-        }
-    }
-
-    /// The cure.
-    fn help(self) -> Result<Option<String>, AllocError> {
-        match &self.found.about {
-            About::Name { .. } => match self.bound_on {
-                Some(line) => self.text_of(&[
-                    Part::Plain("it gets its value on line "),
-                    Part::Number(line),
-                    Part::Plain(": use it below"),
-                ]),
-                None => Ok(None),
-            },
-            About::Loaded(name) => self.near(name.as_str()),
-            About::Attribute { name, value, .. } => self.attribute(name.as_str(), value.of),
-            About::BuiltIn { name, given, .. } if self.code == FaultCode::Args => {
-                self.known(of_arguments(self.dialect, name.as_str(), *given))
-            }
-            About::BuiltIn {
-                name,
-                receiver: Some(receiver),
-                ..
-            } if name.as_str() == "format"
-                && self.code == FaultCode::BadValue
-                && has_conversion(receiver.text.as_str()) => { self.of_core(CONVERSIONS) }
-            About::Index { at, .. } if self.code == FaultCode::Key && at.of == Type::Text => {
-                match self.near(unquoted(at.text.as_str()))? {
-                    Some(help) => Ok(Some(help)),
-                    None => self.lacking(),
-                }
-            }
-            About::Index { value, at, .. } if value.of == Type::Struct && at.of == Type::Text =>
-                self.with_word("a field is read as `x.", unquoted(at.text.as_str()), "`"),
-            About::Operands { sign, left, right } => self.converted(sign.as_str(), left, right),
-            About::Call {
-                callee,
-                misfit: Some(misfit),
-            } => self.fitting(callee, misfit),
-            About::Iterable { of, .. } | About::Unpacked { of, .. } if *of == Some(Type::Dict) => {
-                self.known(Some(ITEMS))
-            }
-            About::Field { field, value: None } if is_unknown(self.dialect, field.as_str()) => {
-                self.known(Some(of_format(self.dialect, field.as_str())))
-            }
-            About::Field { .. } => Ok(None),
-            About::Slice { value } if value.of == Type::Range => self.of_core(RANGES),
-            _ if matches!(self.code, FaultCode::Key | FaultCode::Index) => self.lacking(),
-            _ => Ok(None),
         }
     }
 
