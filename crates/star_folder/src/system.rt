@@ -52,7 +52,7 @@ pub trait Disk {
 }
 
 /// The disk of the system.
-#[derive(Debug)]
+#[derive(Debug, Drop)]
 pub struct SystemDisk<'a, R> {
     rt: &'a R,
 }
