@@ -1,7 +1,7 @@
 //! The texts on faults whose part and values are known.
 
 use crate::calls::{BuiltInCall, has_further};
-use crate::fields::taken_by;
+use crate::fields::{is_unknown, taken_by};
 use crate::words::unquoted;
 use star_dialect::Dialect;
 use star_found::about::{About, Found, Misfit, Shown, Type};

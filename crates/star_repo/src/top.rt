@@ -63,8 +63,8 @@ fn is_direct(folder: &str, inner: &str, real: &str) -> bool
 impl<'a> Top<'a> {
     /// Why what has this real path is not of the folder, though a path in it leads there; `None` if it is of it.
     pub(crate) fn apart_by(self, inner: &str, real: &str) -> Option<Apart>
-        ensures none { result ≡ None → belongs self.links self.entry.real.now inner.now real.now ≡ true }
-        ensures some { IfSome result (λ _. belongs self.links self.entry.real.now inner.now real.now ≡ false) }
+        ensures none { result ≡ None → belongs self.entry.links self.entry.real.now inner.now real.now ≡ true }
+        ensures some { IfSome result (λ _. belongs self.entry.links self.entry.real.now inner.now real.now ≡ false) }
     {
         if is_within("/proc", real) {
             return Some(Apart::System);
