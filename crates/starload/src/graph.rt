@@ -8,6 +8,7 @@ use star_repo::repo::Repo;
 use std::alloc::Global;
 use std::collections::BTreeSet;
 use std::io::Write;
+use std::sync::Wait;
 
 /// Writes the lines of the files that labels reach.
 pub(crate) fn print_graph<F: Repo>(
@@ -18,7 +19,8 @@ pub(crate) fn print_graph<F: Repo>(
 ) -> Result<(), Refusal> {
     let mut walk = Walk::new(alloc, labels);
     let mut output = rt.stdout();
-    'files: loop {
+    // Nothing bounds the files of a folder, which may be written while it is read.
+    for _ in rt.forever() {
         let Some(line) = walk.next(alloc, folder)? else {
             break;
         };
