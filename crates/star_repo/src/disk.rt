@@ -2,10 +2,10 @@
 
 ghost use Rattle.std.specs.Prelude.{◌≡◌, ⊤, IfOk, option_map, take};
 ghost use Rattle.star_label.specs.View.{text_of};
-ghost use Rattle.star_repo.specs.Below.{files_at};
+ghost use Rattle.star_repo.specs.Below.{files_at, there};
 ghost use Rattle.star_repo.specs.Held.{TellsFront, unmarked};
 
-use crate::mark::{FRONT, MARK, front_of};
+use crate::mark::{FRONT, FRONT_OF_FILE, MARK, front_of};
 use crate::repo::Repo;
 use crate::top::{Top, inner_of};
 use star_folder::disk::{counted, path_of, refused};
@@ -77,6 +77,45 @@ fn text_in(alloc: Global, mut bytes: Vec<u8>) -> Result<Vec<u8>, AllocError>
     Ok(bytes)
 }
 
+/// The text of the file that a path leads to: its first bytes. `None` if it leads to no file.
+fn read_at<D: Disk>(alloc: Global, disk: &D, path: &str) -> io::Result<Option<Vec<u8>>>
+    ensures { IfOk result (λ found. TellsFront (option_map (option_map unmarked) ((D.holds disk.now).file path.now))
+        (option_map (λ bytes. bytes.items) found)) }
+{
+    let size = disk.size(path)?;
+    match size {
+        Some(size) => {
+            let bytes = disk.read(alloc, path, FRONT_OF_FILE, size)?;
+            let text = text_in(alloc, bytes)?;
+            Ok(Some(text))
+        }
+        None => Ok(None),
+    }
+}
+
+/// The same, if what a path in the folder at `top` leads to is of the folder. `inner` is the path from the folder on.
+fn found_at<D: Disk>(
+    alloc: Global,
+    disk: &D,
+    top: Top<'_>,
+    path: &str,
+    inner: &str,
+) -> io::Result<Option<Vec<u8>>>
+    ensures { IfOk result (λ found. TellsFront
+        (there top.entry.links top.entry.real.now inner.now
+        ((D.holds disk.now).real path.now) ((D.holds disk.now).file path.now))
+        (option_map (λ bytes. bytes.items) found)) }
+{
+    let real = disk.real(alloc, path)?;
+    match real {
+        Some(real) => match top.apart_by(inner, real.as_str()) {
+            Some(_) => Ok(None),
+            None => read_at(alloc, disk, path),
+        },
+        None => Ok(None),
+    }
+}
+
 /// Looks the path of a label up in the folder at `top`: the first bytes of a text, or no file.
 fn found_of<D: Disk>(
     alloc: Global,
@@ -90,17 +129,7 @@ fn found_of<D: Disk>(
 {
     let path = path_of(alloc, top.path, label)?;
     let inner = inner_of(alloc, label)?;
-    let Some(real) = disk.real(alloc, path.as_str())? else {
-        return Ok(None);
-    };
-    if top.apart_by(inner.as_str(), real.as_str()).is_some() {
-        return Ok(None);
-    }
-    let Some(size) = disk.size(path.as_str())? else {
-        return Ok(None);
-    };
-    let bytes = disk.read(alloc, path.as_str(), FRONT + MARK.len(), size)?;
-    Ok(Some(text_in(alloc, bytes)?))
+    found_at(alloc, disk, top, path.as_str(), inner.as_str())
 }
 
 /// Why what a path in the folder at `top` leads to is not of the folder: `None` if it is, or if the path leads to

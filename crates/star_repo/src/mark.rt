@@ -9,6 +9,9 @@ use std::alloc::{AllocError, Global};
 /// The most bytes that are read of a text: one more than a text may have.
 pub(crate) const FRONT: usize = 1_048_577;
 
+/// The most bytes that are read of a file: those of a text, and a mark before them.
+pub(crate) const FRONT_OF_FILE: usize = 1_048_580;
+
 /// The byte order mark, in UTF-8.
 pub(crate) const MARK: [u8; 3] = [0xef, 0xbb, 0xbf];
 
