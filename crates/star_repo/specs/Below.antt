@@ -1,7 +1,7 @@
 -- Which files a folder of a disk has, by where the paths in it lead.
 use Rattle.std.specs.Prelude.{ℕ, List, [], ◌∷◌, Bool, true, Option, Some, None, length, drop, take, nat_eq, option_map, if◌then◌else◌, ◌||◌, ◌&&◌, not}
 use Rattle.std.specs.Str.{bytes_eq}
-use Rattle.core.specs.List.{ends_with, starts_with}
+use Rattle.std.specs.List.{ends_with, starts_with}
 use Rattle.star_label.specs.Label.{name_of, package_of, with_folder}
 use Rattle.star_folder.specs.Disk.{file_at}
 use Rattle.star_folder.specs.Drive.{Drive}
