@@ -1,6 +1,6 @@
 //! `Walk`: a walk over the files that labels reach in a folder, one file at a time.
 
-ghost use Rattle.std.specs.Prelude.{◌≡◌, IfOk, IfSome, map};
+ghost use Rattle.std.specs.Prelude.{◌≡◌, IfOk, IfSome, None, map};
 ghost use Rattle.star_label.specs.View.{text_of};
 ghost use Rattle.star_repo.specs.Views.{labels_of};
 ghost use Rattle.star_graph.specs.Line.{IsLine, IsLineOf};
@@ -77,13 +77,14 @@ impl Walk {
         Ok(line)
     }
 
-    /// The line of the file at a label, if there is one.
+    /// The line of the file at a label, if there is one; else no further label waits.
     fn look_up<F: Repo>(
         &mut self,
         alloc: Global,
         folder: &mut F,
         label: Label,
     ) -> Result<Option<Vec<u8>>, RepoError>
+        ensures waiting { IfOk result (λ o. o ≡ None → self.new.waiting.keys ≡ self.old.waiting.keys) }
         ensures line { IfOk result (λ o. IfSome o (λ line. IsLine (F.says folder.old) line.items)) }
         ensures same { F.says folder.new ≡ F.says folder.old }
     {
