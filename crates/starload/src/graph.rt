@@ -11,8 +11,9 @@ use std::io::Write;
 use std::sync::Wait;
 
 /// Writes the lines of the files that labels reach.
-pub(crate) fn print_graph<F: Repo>(
+pub(crate) fn print_graph<H: Wait, F: Repo>(
     rt: &HostRuntime,
+    waits: &H,
     alloc: Global,
     folder: &mut F,
     labels: BTreeSet<Label>,
@@ -20,7 +21,7 @@ pub(crate) fn print_graph<F: Repo>(
     let mut walk = Walk::new(alloc, labels);
     let mut output = rt.stdout();
     // Nothing bounds the files of a folder, which may be written while it is read.
-    for _ in rt.forever() {
+    for _ in waits.forever() {
         let Some(line) = walk.next(alloc, folder)? else {
             break;
         };

@@ -424,8 +424,9 @@ fn say_apart(rt: &HostRuntime, alloc: Global, labels: &[(Label, Apart)]) {
 }
 
 /// Writes what each file that the roots and the prelude reach loads. It answers whether all are there.
-fn listed(
+fn listed<H: Wait>(
     rt: &HostRuntime,
+    waits: &H,
     alloc: Global,
     top: Top<'_>,
     options: &Options,
@@ -433,7 +434,7 @@ fn listed(
 ) -> Result<bool, Refusal> {
     let labels = asked_labels(alloc, options.roots.as_slice(), options.prelude.as_ref())?;
     let disk = SystemDisk::new(rt);
-    print_graph(rt, alloc, &mut DiskRepo::new(&disk, top), labels)?;
+    print_graph(rt, waits, alloc, &mut DiskRepo::new(&disk, top), labels)?;
     Ok(are_all)
 }
 
@@ -465,7 +466,7 @@ fn reported<H: Threads + Wait + Sync>(
     say_left_out(rt, &left_out);
     let top = asked.top(&place);
     if asked.is_listed {
-        return listed(rt, alloc, top, &options, left_out.is_empty());
+        return listed(rt, threads, alloc, top, &options, left_out.is_empty());
     }
     let most = most_told(&options);
     let disk = SystemDisk::new(rt);
