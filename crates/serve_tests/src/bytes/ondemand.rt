@@ -1,6 +1,6 @@
 //! Files on demand, from a folder in memory that fails where a script says so.
 
-ghost use Rattle.star_repo.specs.Held.{unsaid};
+ghost use Rattle.std.specs.Prelude.{None};
 
 use crate::bytes::{NEVER, options_of, writer_of};
 use star_bundle::error::ServeError;
@@ -39,7 +39,7 @@ struct Failing<'a> {
 }
 
 impl<'a> Repo for Failing<'a> {
-    ghost says = { λ s. unsaid };
+    ghost says = { λ s label. None };
 
     ghost failed = { λ s. s.failed };
 
