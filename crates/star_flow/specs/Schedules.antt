@@ -1,5 +1,6 @@
 -- The files that are ready to run, as the schedule counts them.
-use Rattle.std.specs.Prelude.{◌≡◌, ◌++◌, ◌∷◌, ◌≤◌, ◌-◌, ◌⊎◌, ℕ, List, [], All, Contains, slice_index_or}
+use Rattle.std.specs.Prelude.{◌≡◌, ◌++◌, ◌∷◌, ◌≤◌, ◌-◌, ◌⊎◌, ℕ, nat_eq, List, [], Contains, slice_index_or}
+use Rattle.std.specs.List.{count_by}
 use Rattle.star_flow.specs.declared.schedule.Next.{Next}
 use Rattle.star_flow.specs.declared.schedule.Next.TheVariants.{Run, Sleep, Over}
 
@@ -22,6 +23,14 @@ IsNext old Over new = (old.ready ≡ []) × (old.running ≡ 0) × (new ≡ old)
 -- a ready file was ready before, or is one of these
 abbrev pub IsReadyOf : List ℕ → List ℕ → List ℕ → Type 0
 IsReadyOf old more new = (n : ℕ) → Contains new n → Contains old n ⊎ Contains more n
+
+-- how many loads of a file have not ended
+abbrev pub waiting : ScheduleView → ℕ → ℕ
+waiting s n = slice_index_or s.missing n 0
+
+-- of each file one load fewer is left for each time that it is listed
+abbrev pub HaveEnded : List ℕ → ScheduleView → ScheduleView → Type 0
+HaveEnded files old new = (n : ℕ) → waiting new n ≡ waiting old n - count_by (nat_eq n) files
 
 -- how many loads each file has, and which numbers are files
 pub record GraphView : Type 0 where

@@ -1,7 +1,7 @@
 //! The schedule: the files that are ready to run, since all of their loads have ended.
 
 ghost use Rattle.std.specs.Prelude.{◌≡◌, ◌-◌, ◌∷◌, [], All, false};
-ghost use Rattle.star_flow.specs.Schedules.{HasAll, IsNext, IsReadyOf};
+ghost use Rattle.star_flow.specs.Schedules.{HasAll, HaveEnded, IsNext, IsReadyOf};
 
 use std::marker::Model;
 
@@ -77,6 +77,7 @@ impl Schedule {
 
     /// One load of a file has ended.
     fn load_ended(&mut self, n: usize)
+        ensures missing { HaveEnded (n ∷ []) self.old self.new }
         ensures ready { IsReadyOf self.old.ready (n ∷ []) self.new.ready }
         ensures running { self.new.running ≡ self.old.running }
     {
@@ -92,6 +93,7 @@ impl Schedule {
 
     /// A file has ended: for each of these files one load has, as often as the file is listed.
     pub fn ended(&mut self, importers: &[usize])
+        ensures missing { HaveEnded importers.now self.old self.new }
         ensures ready { IsReadyOf self.old.ready importers.now self.new.ready }
         ensures running { self.new.running ≡ self.old.running - 1 }
     {

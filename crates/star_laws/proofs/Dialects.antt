@@ -6,7 +6,7 @@ use Rattle.star_store.specs.declared.names.Method.{Method}
 use Rattle.star_meaning.specs.Attributes.{core_method_of, or_in_table}
 use Rattle.star_strings.specs.Table.{named}
 use Rattle.star_meaning.specs.declared.fault.FaultCode.TheVariants as code
-use Rattle.star_meaning.specs.Run.{Action, ◌>>=◌, found}
+use Rattle.star_meaning.specs.Run.{◌>>=◌, found}
 use Rattle.star_meaning.specs.TableMethods.{call_in_table, in_dialect}
 use Rattle.star_laws.specs.Dialects.{CoreCallsItsOwn, CoreHasItsMethods, ExtendedHasThem}
 

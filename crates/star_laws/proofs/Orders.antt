@@ -1,20 +1,13 @@
 -- Sorting by keys keeps the items.
-use Rattle.std.proofs.Common.{◌≡◌, ℕ, zero, suc, ◌/◌, nat_lt, List, [], ◌∷◌, ◌++◌, length, take, drop, take-append-drop, Bool, true, false, map, if◌then◌else◌, refl, ap, sym, subst, ◌∙◌}
+use Rattle.std.proofs.Common.{◌≡◌, ℕ, zero, suc, ◌/◌, nat_lt, List, [], ◌∷◌, ◌++◌, length, take, drop, take-append-drop, Bool, true, false, map, if◌then◌else◌, refl, ap, subst}
 use Rattle.std.specs.Prelude.{IsPermutation}
 use Rattle.std.proofs.lemmas.List.Sorted.{IsPermutation-refl, IsPermutation-cons, IsPermutation-trans, IsPermutation-append, IsPermutation-middle}
-use Rattle.star_dialect.specs.declared.Dialect.{Dialect}
-use Rattle.star_dialect.specs.declared.Dialect.TheVariants as dialect
-use Rattle.star_store.specs.declared.values.Value.{Value}
-use Rattle.star_meaning.specs.Calls.{Callee, AFunction, ABuiltIn, AMethod, called, called_built_in, called_plainly, takes_key}
+use Rattle.star_meaning.specs.Calls.{AFunction, ABuiltIn, AMethod, called_built_in, takes_key}
 use Rattle.star_meaning.specs.Merging.{in_front, first_among, merged, halved, merge_sort}
-use Rattle.star_meaning.specs.Orders.{can_sort, is_before_by, precedes, sorted_free, sorted_pairs}
-use Rattle.star_meaning.specs.Program.{Setting}
+use Rattle.star_meaning.specs.Orders.{can_sort, is_before_by, precedes, sorted_free}
 use Rattle.star_meaning.specs.Run.{State, Action, Outcome, Done, Failed, and_then, give}
-use Rattle.star_meaning.specs.Semantics.{Semantics}
 use Rattle.star_store.specs.Sorting.{placed, in_order}
 use Rattle.star_meaning.specs.Values.{content}
-use Rattle.star_meaning.specs.declared.given.Arguments.{Arguments}
-use Rattle.star_meaning.specs.declared.site.Site.{Site}
 use Rattle.star_laws.specs.Orders.{SortingKeepsTheItems, CoreHasNoKeys}
 
 -- what ends well began well

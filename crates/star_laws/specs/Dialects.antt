@@ -1,5 +1,5 @@
 -- Dialects: the core language stays as it is, and the extended one has all of it.
-use Rattle.std.specs.Prelude.{◌≡◌, ℕ, List, Option, Some}
+use Rattle.std.specs.Prelude.{◌≡◌, ℕ, List, Some}
 use Rattle.star_dialect.specs.declared.Dialect.TheVariants as dialect
 use Rattle.star_store.specs.declared.values.Value.{Value}
 use Rattle.star_store.specs.declared.names.Method.{Method}

@@ -7,3 +7,4 @@ pub mod BoundArguments
 pub mod Iterations
 pub mod Dialects
 pub mod Orders
+pub mod Sets

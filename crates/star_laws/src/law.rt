@@ -1,4 +1,4 @@
-//! Laws of the definitions of arithmetic, ranges, keys, calls, open iterations, dialects and orders.
+//! Laws of the definitions of arithmetic, ranges, keys, calls, open iterations, dialects, orders and sets.
 
 ghost use Rattle.star_laws.specs.Calls.{BoundWhereTheyFit, GivenNamesDiffer};
 ghost use Rattle.star_laws.specs.Dialects.{CoreCallsItsOwn, CoreHasItsMethods, ExtendedHasThem};
@@ -7,6 +7,7 @@ ghost use Rattle.star_laws.specs.Iterations.{FilesBeginWithNoLoop, LoopsAreCount
 ghost use Rattle.star_laws.specs.Keys.{EqualKeysAreTheSame, KeysHaveEquality};
 ghost use Rattle.star_laws.specs.Orders.{CoreHasNoKeys, SortingKeepsTheItems};
 ghost use Rattle.star_laws.specs.Ranges.{RangesHaveTheirItems, RangesStepToTheirStop, SameRangesHaveTheSameItems};
+ghost use Rattle.star_laws.specs.Sets.{MergedSetsDiffer, MergedSetsHold};
 ghost use Rattle.star_laws.specs.BoundArguments.{BoundAsGiven};
 
 /// An int is its quotient by a divisor other than 0, times the divisor, plus the remainder. The remainder is between 0
@@ -127,4 +128,16 @@ pub fn sorting_keeps_the_items()
 /// "Extended": "Orders".)
 pub fn core_has_no_keys()
     ensures { CoreHasNoKeys }
+{}
+
+/// A value is in the union of a set with others if it is in one of them; in the intersection, if it is in the set and in
+/// each of the others; in the difference, if it is in the set and in none of the others; in the symmetric difference, if
+/// it is in the set or in the others, and not in both. (`docs/LANGUAGE.md`, "Extended": "Sets".)
+pub fn merged_sets_hold()
+    ensures { MergedSetsHold }
+{}
+
+/// If no element of a set is there twice, none is in what the set is merged to. (`docs/LANGUAGE.md`, "Extended": "Sets".)
+pub fn merged_sets_differ()
+    ensures { MergedSetsDiffer }
 {}
