@@ -65,6 +65,7 @@ static inline const char *starload_refusal(uint32_t refusal)
         "too many files", "file too long", "bad root", "no such root", "bad prelude", "no such prelude", "out of memory",
         "cannot write the report", "module not published", "cannot list the folder", "cannot read a file",
         "a file is not text", "steps are not from 1 to 100000000", "no roots, or a word that is not UTF-8",
+        "bad record",
     };
     return refusal < sizeof texts / sizeof texts[0] ? texts[refusal] : "unknown refusal";
 }

@@ -1,6 +1,8 @@
 //! Tests of all parts that read files, a module for each.
 
+mod editor;
 mod folder;
+mod frames;
 mod keys;
 mod labels;
 mod names;

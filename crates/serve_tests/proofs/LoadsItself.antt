@@ -9,7 +9,7 @@ abbrev pub itself : Load
 itself = record { file = 0; line = 1; token = None }
 
 abbrev pub twice : Plan
-twice = record { roots = []; prelude = None; mode = record { steps = 1; dialect = Core }; reads = Some (Sound [] (itself ∷ itself ∷ [])) ∷ [] }
+twice = record { roots = []; prelude = None; mode = record { steps = 1; language = record { dialect = Core; recorded = [] } }; reads = Some (Sound [] (itself ∷ itself ∷ [])) ∷ [] }
 
 -- both loads lie on a cycle
 pub first_refused : IsRefusal twice (record { file = 0; index = 0; loaded = 0 })

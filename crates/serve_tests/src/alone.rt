@@ -3,7 +3,7 @@
 use star_alone::answer::answer_alone;
 use star_bundle::error::ServeError;
 use star_checks::holds;
-use star_dialect::{Dialect, Mode};
+use star_dialect::Mode;
 use star_report::wanted::Wanted;
 use std::alloc::{AllocError, Global};
 use std::test::Fail;
@@ -19,6 +19,7 @@ const WANTED: Wanted = Wanted {
     values: false,
     loads: true,
     steps: true,
+    calls: false,
     only_roots: false,
 };
 
@@ -40,10 +41,7 @@ fn answer_of(
         bytes,
         words.as_slice(),
         Some(&prelude),
-        Mode {
-            steps: 1_000_000,
-            dialect: Dialect::Core,
-        },
+        &Mode::core(alloc, 1_000_000),
         WANTED,
     ) {
         Ok(answered) => Ok((answered.text, Ok(answered.all_ok))),

@@ -9,7 +9,7 @@ mod ondemand;
 
 use star_bundle::error::ServeError;
 use star_checks::{holds, writes};
-use star_dialect::{Dialect, Mode};
+use star_dialect::Mode;
 use star_folder::folder::{Folder, FolderError, Kind};
 use star_folder::memory::{MemoryFolder, Row};
 use star_label::label::Label;
@@ -134,10 +134,7 @@ pub(crate) fn options_of(alloc: Global, loaders: usize, root: &str) -> Result<Op
     roots.push(String::from_str(alloc, root)?)?;
     Ok(Options {
         loaders,
-        mode: Mode {
-            steps: 10_000,
-            dialect: Dialect::Core,
-        },
+        mode: Mode::core(alloc, 10_000),
         seed: 1,
         roots,
         prelude: None,

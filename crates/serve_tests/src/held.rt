@@ -5,10 +5,10 @@ ghost use Rattle.star_host.specs.Worlds.{IsContext};
 ghost use Rattle.star_outcome.specs.Fits.{IsAsked};
 
 use crate::meeting::Meeting;
-use crate::runs::{BY_TWO, all_roots, files_of};
+use crate::runs::{all_roots, files_of};
 use star_cache::{LoadCache, Seat};
 use star_checks::holds;
-use star_dialect::Dialect;
+use star_dialect::Mode;
 use star_host::{
     LoadContext, LoadError, RunId, RunOptions, Shelf, Told, Trace, Trees, load, programs,
     read_files,
@@ -113,9 +113,17 @@ fn read_while_held<R: Threads + Wait + Sync>(
 {
     let trees = Trees::new(alloc)?;
     let shelf = Shelf::new(alloc, files.len())?;
-    let reads = read_files(rt, alloc, files, &trees, roots, None, Dialect::Core, 2)?;
+    let mode = Mode::core(alloc, 100_000);
+    let reads = read_files(rt, alloc, files, &trees, roots, None, &mode.language, 2)?;
     let programs = programs(alloc, &reads)?;
-    let options = RunOptions { roots, ..BY_TWO };
+    let options = RunOptions {
+        roots,
+        prelude: None,
+        loaders: 2,
+        mode: &mode,
+        seed: 1,
+        ballast: None,
+    };
     let common = LoadContext::new(alloc, files, &reads, &programs, &shelf, &[], options);
     read_and_load::<Brand, R>(rt, &common, gate, roots, Blank::new(2))
 }

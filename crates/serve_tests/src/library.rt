@@ -4,10 +4,10 @@ ghost use Rattle.std.specs.Prelude.{◌≡◌, ◌<◌, All, length};
 ghost use Rattle.star_host.specs.Worlds.{IsContext};
 ghost use Rattle.star_outcome.specs.Fits.{IsAsked};
 
-use crate::runs::{BY_TWO, files_of, three};
+use crate::runs::{files_of, three};
 use star_cache::{Book, LoadCache};
 use star_checks::holds;
-use star_dialect::Dialect;
+use star_dialect::Mode;
 use star_host::gate::Open;
 use star_host::{
     LoadContext, LoadError, RunId, RunOptions, Shelf, Told, Trace, Trees, load, programs,
@@ -86,11 +86,16 @@ fn load_label<R: Threads + Wait + Sync>(
     let roots = [root];
     let trees = Trees::new(alloc)?;
     let shelf = Shelf::new(alloc, files.len())?;
-    let reads = read_files(rt, alloc, files, &trees, &roots, None, Dialect::Core, 2)?;
+    let mode = Mode::core(alloc, 100_000);
+    let reads = read_files(rt, alloc, files, &trees, &roots, None, &mode.language, 2)?;
     let programs = programs(alloc, &reads)?;
     let options = RunOptions {
         roots: &roots,
-        ..BY_TWO
+        prelude: None,
+        loaders: 2,
+        mode: &mode,
+        seed: 1,
+        ballast: None,
     };
     let common = LoadContext::new(alloc, files, &reads, &programs, &shelf, &[], options);
     load_first::<Brand, R>(rt, &common, &roots, Blank::new(2))

@@ -8,7 +8,7 @@ use crate::runs::files_of;
 use star_call::callee::Callee;
 use star_call::passed::{EvaluatedArgument, given};
 use star_checks::holds;
-use star_dialect::Dialect;
+use star_dialect::{Dialect, Language};
 use star_enter::calls::callee_of;
 use star_enter::ordered::bound_of;
 use star_label::files::Files as Labels;
@@ -83,7 +83,8 @@ fn many_parameters_have_a_layout_over(
     files: &Files,
     homes: &Homes,
 ) -> Result<(), Fail> {
-    let world = World::new(0, homes, files, &[], None, Dialect::Core);
+    let language = Language::of(alloc, Dialect::Core);
+    let world = World::new(0, homes, files, &[], None, &language);
     holds!(rt; world.order(0, 0).is_some());
     holds!(rt; world.order(0, 1).is_none());
     holds!(rt; world.order(1, 0).is_none());
@@ -120,7 +121,8 @@ fn many_parameters_have_a_layout_of(
     tree: &Tree,
 ) -> Result<(), Fail> {
     assert!(rt; 0 < labels.len());
-    let program = program_of(alloc, labels, 0, tree, None, Dialect::Core)?;
+    let language = Language::of(alloc, Dialect::Core);
+    let program = program_of(alloc, labels, 0, tree, None, &language)?;
     many_parameters_have_a_layout_with(rt, alloc, &program)
 }
 

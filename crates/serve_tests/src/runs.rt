@@ -3,7 +3,7 @@
 ghost use Rattle.std.specs.Prelude.{◌≡◌, ◌<◌, ◌≤◌, All, IfOk, length};
 
 use star_checks::holds;
-use star_dialect::{Dialect, Mode};
+use star_dialect::Mode;
 use star_host::gate::Gate;
 use star_host::{Reads, Run, RunOptions, run};
 use star_label::files::Files;
@@ -28,19 +28,6 @@ pub fn three() -> [(&'static str, &'static str); 3] {
         ("//:c.star", "k = 1"),
     ]
 }
-
-/// Two loaders, no roots and no prelude, and 100,000 steps for each body.
-pub const BY_TWO: RunOptions<'static> = RunOptions {
-    roots: &[],
-    prelude: None,
-    loaders: 2,
-    mode: Mode {
-        steps: 100_000,
-        dialect: Dialect::Core,
-    },
-    seed: 1,
-    ballast: None,
-};
 
 /// The files with these labels and texts.
 pub fn files_of(alloc: Global, bundle: &[(&str, &str)]) -> Result<Files, Fail> {
@@ -96,10 +83,14 @@ pub fn run_all<R: Threads + Wait + Sync, G: Gate + Sync>(
     ensures { IfOk result (λ r. length r.cells ≡ length files.now) }
 {
     let roots = all_roots(alloc, files)?;
+    let mode = Mode::core(alloc, 100_000);
     let options = RunOptions {
         roots: &roots,
+        prelude: None,
         loaders,
-        ..BY_TWO
+        mode: &mode,
+        seed: 1,
+        ballast: None,
     };
     Ok(run(rt, alloc, files, options, gate)?)
 }

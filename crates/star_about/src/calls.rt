@@ -9,6 +9,7 @@ use star_dialect::Dialect;
 use star_found::about::{About, Found, Misfit, Place, Shown, Turn, Type};
 use star_machine::content::Kind;
 use star_meaning::fault::FaultCode;
+use star_store::names::BuiltIn;
 use star_store::values::Value;
 use star_text::Text;
 use star_tree::tree::{Argument, Expression, Parameter};
@@ -274,6 +275,28 @@ impl<'w, 'a, 't> Look<'w, 'a, 't> {
         Ok(Some(found_at(self.alloc, self.place_of(word)?, about)))
     }
 
+    /// A call of a function whose calls are recorded: it is its own receiver.
+    fn recorded(
+        &mut self,
+        word: Option<usize>,
+        function: Value,
+        given: &Arguments,
+    ) -> Result<Option<Found>, AllocError> {
+        let callee = self.shown(function)?;
+        if let (FaultCode::Args, Some(named)) = (self.fault.code, given.repeated()) {
+            let misfit = Misfit::Twice(named.name.share()?);
+            return self.misfitting(word, callee, (misfit, named.token), &[]);
+        }
+        let about = About::BuiltIn {
+            name: callee.text.share()?,
+            receiver: Some(callee),
+            first: self.maybe_shown(given.plain.first().copied())?,
+            second: None,
+            given: given.count(),
+        };
+        Ok(Some(found_at(self.alloc, self.place_of(word)?, about)))
+    }
+
     /// The arguments of a call whose parts have these values, or the report on a value that cannot be spread;
     /// `None` if a value is not known, but for a write, where the receiver suffices.
     fn given(
@@ -327,6 +350,7 @@ impl<'w, 'a, 't> Look<'w, 'a, 't> {
             None => return Ok(None),
         };
         match kind {
+            Kind::BuiltInFunction(BuiltIn::Recorded(_)) => self.recorded(word, callee, &given),
             Kind::BuiltInFunction(function) => self.built_in(word, function.name(), None, &given),
             Kind::Method(method, receiver) if self.may_be_written(receiver) => {
                 self.built_in(word, method.name(), Some(receiver), &given)

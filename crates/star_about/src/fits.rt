@@ -48,7 +48,7 @@ impl Arguments {
     }
 
     /// The first keyword argument with the name of one before it.
-    fn repeated(&self) -> Option<&Named> {
+    pub(crate) fn repeated(&self) -> Option<&Named> {
         for (i, named) in self.named.iter().enumerate() {
             let before = self.named.iter().take(i);
             for other in before {

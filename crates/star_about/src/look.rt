@@ -1,6 +1,6 @@
 //! The way in: a second look at the store of a run that has stopped.
 
-use star_dialect::Dialect;
+use star_dialect::Language;
 use star_found::about::{About, Found, Place, Turn};
 use star_machine::fault::EvalError;
 use star_machine::machine::Machine;
@@ -25,8 +25,8 @@ pub struct Fault<'f> {
     pub line: usize,
     /// The file whose run it was.
     pub home: u32,
-    /// The dialect of its text.
-    pub dialect: Dialect,
+    /// The language of its text.
+    pub language: &'f Language,
     /// The statements and calls that the fault passed on its way out, the innermost first.
     pub trail: &'f [Step],
 }
@@ -103,7 +103,7 @@ pub fn seek<'a, 't>(
     let Ok(own) = u32::try_from(files.statements().len()) else {
         return Ok(None);
     };
-    let world = World::new(own, homes, files, loads, prelude, fault.dialect);
+    let world = World::new(own, homes, files, loads, prelude, fault.language);
     let mut look = Look {
         alloc,
         world: &world,

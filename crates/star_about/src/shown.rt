@@ -4,6 +4,7 @@ use crate::look::Look;
 use star_found::about::{Shown, Type};
 use star_machine::content::{Content, Kind};
 use star_machine::fault::EvalError;
+use star_store::names::BuiltIn;
 use star_store::values::{Cell, Value};
 use star_text::Text;
 use std::alloc::{AllocError, Global};
@@ -73,6 +74,12 @@ impl<'w, 'a, 't> Look<'w, 'a, 't> {
         }
     }
 
+    /// The name of a built-in function.
+    fn built_in_name(&self, function: BuiltIn) -> Result<Text, AllocError> {
+        let names = self.world.setting().language().recorded.names();
+        Text::new(self.alloc, function.name_among(names))
+    }
+
     /// The start of the `repr` of a value; empty if the value is too large or too deep.
     fn text(&mut self, value: Value) -> Result<Text, AllocError> {
         let setting = self.world.setting();
@@ -92,7 +99,7 @@ impl<'w, 'a, 't> Look<'w, 'a, 't> {
         let kind = self.kind(value);
         let text = match kind {
             Kind::Function => self.function_name(value)?,
-            Kind::BuiltInFunction(function) => Text::new(self.alloc, function.name())?,
+            Kind::BuiltInFunction(function) => self.built_in_name(function)?,
             Kind::Method(method, _) => Text::new(self.alloc, method.name())?,
             _ => self.text(value)?,
         };

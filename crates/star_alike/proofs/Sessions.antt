@@ -1,7 +1,9 @@
 -- A report of a session is what a process writes.
-use Rattle.std.proofs.Common.{◌≡◌, ◌++◌, ℕ, Bool, List, [], ◌∷◌, Option, Some, Ok, refl, ap, sym, subst, ◌∙◌, inl, inr}
+use Rattle.std.proofs.Common.{◌≡◌, ◌++◌, ℕ, Bool, true, false, List, [], ◌∷◌, Option, Some, Result, Ok, Err, refl, ap, sym, subst, ◌∙◌, inl, inr}
 use Rattle.star_label.specs.Files.{File, limit_passed}
 use Rattle.star_bundle.specs.Bundle.{Asked, asked_among, asked_of, files_of, within_limits, ◌>>=◌}
+use Rattle.star_bundle.specs.Refusal.{if_so}
+use Rattle.star_bundle.specs.declared.error.ServeError.{ServeError}
 use Rattle.star_report.specs.Output.{InPlanOf, IsOutput}
 use Rattle.star_report.specs.declared.wanted.Output.TheVariants.{Report}
 use Rattle.star_serve.specs.Serve.{Reports, prelude_word, root_words}
@@ -14,10 +16,16 @@ use Rattle.star_reply.proofs.Ordered.{asked_files, before as parts, kept_within}
 use Rattle.star_reply.proofs.Replies.{all_read, one_answer, one_reply}
 use Rattle.star_alike.specs.Laws.{AreOptionsOf, ChangesFollow, IsAnsweredAsWritten, SessionsAnswer, SessionsAreProcesses, SessionsReply, SessionsServe, SessionsServeAmong, written}
 
+-- an input that is not refused for the names whose calls are to be recorded is the input
+not_refused : (test : Bool) (e : ServeError) (given : Result Asked ServeError) (asked : Asked) → if_so test e given ≡ Ok asked → given ≡ Ok asked
+not_refused true e (Ok x) asked h = h
+not_refused false e (Ok x) asked h = absurd (let no : ⊥ = cc in no)
+not_refused test e (Err f) asked h = absurd (let no : ⊥ = cc in no)
+
 -- what is asked among files that pass no limit
 asked_there : (files : List File) (a : Asking) (asked : Asked) → asks_among files a ≡ Ok asked → asked_among a.roots a.prelude files ≡ Ok asked
 asked_there files a asked e =
-    let both = parts (within_limits files (limit_passed files)) (λ fs. asked_among a.roots a.prelude fs) asked e in
+    let both = parts (within_limits files (limit_passed files)) (λ fs. asked_among a.roots a.prelude fs) asked (not_refused _ _ _ asked e) in
     let same : files ≡ both.0 = kept_within files both.0 (limit_passed files) both.1 in
     subst (λ fs. asked_among a.roots a.prelude fs ≡ Ok asked) (sym same) both.2
 
@@ -60,7 +68,7 @@ with_options options a are input before after ok r =
 pub sessions_serve : (W E : Type 0) → SessionsServe W E
 sessions_serve W E taken traced failed files a report input before options old new writer writer' errors errors' ok h are e left took s =
     let same = all_read old.left new.left input s.1.0 left s.1.1.0.0.1 s.1.1.0.1 in
-    let asks = subst (λ i. asked_of (root_words options) (prelude_word options) i ≡ Ok s.0) same s.1.2 in
+    let asks = subst (λ i. asked_of (root_words options) (prelude_word options) i ≡ Ok s.0) same (not_refused _ _ _ s.0 s.1.2) in
     let wrote = subst (λ w. Reports options.output s.0 options.mode w (taken writer') ok) took s.2 in
     ((sessions_reply files a report h).each_reply input before (taken writer') ok e (with_options options a are input before (taken writer') ok (s.0, asks, wrote))).0
 
@@ -74,7 +82,7 @@ with_options_among options a are files before after ok r =
 pub sessions_serve_among : (W E : Type 0) → SessionsServeAmong W E
 sessions_serve_among W E taken traced failed files a report before options writer writer' errors errors' ok ordered h are took s =
     let wrote = subst (λ w. Reports options.output s.0 options.mode w (taken writer') ok) took s.2 in
-    (one_answer files ordered (Report a.wanted) a.roots a.prelude a.mode before (taken writer') (Some (before ++ written report)) ok h.ok (with_options_among options a are files before (taken writer') ok (s.0, s.1, wrote)) (among files a report before h)).0
+    (one_answer files ordered (Report a.wanted) a.roots a.prelude a.mode before (taken writer') (Some (before ++ written report)) ok h.ok (with_options_among options a are files before (taken writer') ok (s.0, not_refused _ _ _ s.0 s.1, wrote)) (among files a report before h)).0
 
 pub sessions_are_processes : SessionsAreProcesses
 sessions_are_processes defaults before after [] [] h = h

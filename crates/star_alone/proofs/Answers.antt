@@ -13,11 +13,11 @@ use Rattle.star_report.specs.declared.wanted.Output.TheVariants.{Report}
 use Rattle.star_report.specs.declared.wanted.Wanted.{Wanted}
 
 -- the text of a run's report, and whether its modules are good, in the plan of the files
-pub answered_in : (wanted : Wanted) (files : List File) (roots : List ℕ) (prelude : Option ℕ) (mode : Mode) (row : Row) (run : RunView) (text : List ℕ) (ok : Bool) → run.begun ≡ length run.kept → AreModulesOf files roots prelude mode run.kept → IsReadOf files roots prelude mode.dialect row
+pub answered_in : (wanted : Wanted) (files : List File) (roots : List ℕ) (prelude : Option ℕ) (mode : Mode) (row : Row) (run : RunView) (text : List ℕ) (ok : Bool) → run.begun ≡ length run.kept → AreModulesOf files roots prelude mode run.kept → IsReadOf files roots prelude mode.language row
     → ReportsRun wanted files row roots run text → (ok ≡ true → AllGood run.kept) → (ok ≡ false → AllGood run.kept → ⊥)
     → InPlanOf files roots prelude mode (λ plan. IsOutput (Report wanted) files plan text ok)
 answered_in wanted files roots prelude mode row run text ok count (plan, planned, of_roots, of_prelude, of_mode, are) read writes good bad =
-    let but = writes plan planned of_roots (subst (λ (m : Mode). IsReadOf files roots plan.prelude m.dialect row) (sym of_mode) (subst (λ p. IsReadOf files roots p mode.dialect row) (sym of_prelude) read)) are in (
+    let but = writes plan planned of_roots (subst (λ (m : Mode). IsReadOf files roots plan.prelude m.language row) (sym of_mode) (subst (λ p. IsReadOf files roots p mode.language row) (sym of_prelude) read)) are in (
       plan,
       planned,
       of_roots,

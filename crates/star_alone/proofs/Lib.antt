@@ -1,3 +1,4 @@
 mod Answers
 mod Pages
+mod Recording
 mod Waits

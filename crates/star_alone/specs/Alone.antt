@@ -3,9 +3,10 @@ use Rattle.std.specs.Prelude.{◌≡◌, ◌⊎◌, ℕ, List, Bool, Option, Res
 use denote.Ref.{Bor}
 use Rattle.star_dialect.specs.declared.Mode.{Mode}
 use Rattle.star_bundle.specs.Bundle.{Asked, asked_of}
-use Rattle.star_bundle.specs.Refusal.{Fails}
+use Rattle.star_bundle.specs.Refusal.{Fails, if_so}
 use Rattle.star_bundle.specs.declared.error.ServeError.{ServeError}
-use Rattle.star_bundle.specs.declared.error.ServeError.TheVariants.{TooBig, Unpublished}
+use Rattle.star_bundle.specs.declared.error.ServeError.TheVariants.{BadRecord, TooBig, Unpublished}
+use Rattle.star_reading.specs.Record.{are_recordable}
 use Rattle.star_report.specs.Output.{InPlanOf, IsOutput}
 use Rattle.star_report.specs.declared.wanted.Output.TheVariants.{Report}
 use Rattle.star_report.specs.declared.wanted.Wanted.{Wanted}
@@ -24,6 +25,10 @@ asked_within roots prelude input =
 abbrev pub asked_by : {Z : Type 0} → List (String Z) → Option (Bor (String Z)) → List ℕ → Result Asked ServeError
 asked_by roots prelude input =
     asked_within (map string_bytes roots) (option_map (λ p. string_bytes p.now) prelude) input
+
+-- the input, unless it is refused for the names whose calls are to be recorded: this refusal comes last
+abbrev pub recording : Mode → Result Asked ServeError → Result Asked ServeError
+recording mode given = if_so (are_recordable mode.language.recorded) BadRecord given
 
 -- a text is the report of an input, with the further members that are wanted, and the answer is whether each module of
 -- it is ok

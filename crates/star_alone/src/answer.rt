@@ -3,7 +3,7 @@
 ghost use Rattle.std.specs.Prelude.{◌≡◌, ◌+◌, ◌<◌, ◌≤◌, ◌⊎◌, All, IfErr, IfOk, IfSome, Ok, length};
 ghost use Rattle.star_bundle.specs.Refusal.{Gives};
 ghost use Rattle.star_bundle.specs.View.{asked_view};
-ghost use Rattle.star_alone.specs.Alone.{IsAnswerTo, IsAnswered, IsRefusedBy, asked_by};
+ghost use Rattle.star_alone.specs.Alone.{IsAnswerTo, IsAnswered, IsRefusedBy, asked_by, recording};
 
 use crate::reading::tree_cells;
 use crate::report::report_alone;
@@ -13,6 +13,7 @@ use star_bundle::error::ServeError;
 use star_dialect::Mode;
 use star_host::{Reads, RunError, RunOptions};
 use star_outcome::shelf::Shelf;
+use star_reading::record::are_recordable;
 use star_report::report::all_good;
 use star_report::wanted::Wanted;
 use star_tree::tree::Tree;
@@ -35,16 +36,16 @@ fn answer_over<'t>(
     asked: &AskedFor,
     trees: &'t Shelf<Tree>,
     reads: &mut Reads<'t>,
-    mode: Mode,
+    mode: &Mode,
     seed: u64,
     wanted: Wanted,
 ) -> Result<Answered, ServeError>
     requires cells { length trees.now ≡ length asked.now.files + 1 }
     requires roots { All (λ n. n < length asked.now.files) asked.now.roots.items }
     requires prelude { IfSome asked.now.prelude (λ n. n < length asked.now.files) }
-    requires steps { (1 ≤ mode.steps) × (mode.steps ≤ 100000000) }
+    requires steps { (1 ≤ mode.now.steps) × (mode.now.steps ≤ 100000000) }
     ensures kinds { IfErr result (λ e. (e ≡ ServeError.Memory) ⊎ (e ≡ ServeError.Unpublished)) }
-    ensures ok { IfOk result (λ a. IsAnswered wanted (asked_view asked.now) mode a.text.items a.all_ok) }
+    ensures ok { IfOk result (λ a. IsAnswered wanted (asked_view asked.now) mode.now a.text.items a.all_ok) }
 {
     let files = &asked.files;
     let roots = asked.roots.as_slice();
@@ -70,15 +71,15 @@ fn answer_over<'t>(
 fn answer_asked(
     alloc: Global,
     asked: &AskedFor,
-    mode: Mode,
+    mode: &Mode,
     seed: u64,
     wanted: Wanted,
 ) -> Result<Answered, ServeError>
     requires roots { All (λ n. n < length asked.now.files) asked.now.roots.items }
     requires prelude { IfSome asked.now.prelude (λ n. n < length asked.now.files) }
-    requires steps { (1 ≤ mode.steps) × (mode.steps ≤ 100000000) }
+    requires steps { (1 ≤ mode.now.steps) × (mode.now.steps ≤ 100000000) }
     ensures kinds { IfErr result (λ e. (e ≡ ServeError.Memory) ⊎ (e ≡ ServeError.Unpublished)) }
-    ensures ok { IfOk result (λ a. IsAnswered wanted (asked_view asked.now) mode a.text.items a.all_ok) }
+    ensures ok { IfOk result (λ a. IsAnswered wanted (asked_view asked.now) mode.now a.text.items a.all_ok) }
 {
     let trees = tree_cells(alloc, &asked.files)?;
     let mut reads = Reads::new(alloc);
@@ -112,7 +113,7 @@ fn input_of(
 }
 
 /// The report of the bundle with these bytes, for these roots and this prelude, with the further members of each module
-/// that are wanted. `mode` has the steps that each body may take, from 1 to 100,000,000, and the dialect. All is done by
+/// that are wanted. `mode` has the steps that each body may take, from 1 to 100,000,000, and the language. All is done by
 /// the caller's own thread, and all memory but the text's is back when it returns.
 ///
 /// The rules are in `docs/USING.md`: what a bundle is, the refusals in their order, and the report. `TooBig` if there
@@ -122,23 +123,27 @@ pub fn answer_alone(
     bytes: &[u8],
     roots: &[String],
     prelude: Option<&String>,
-    mode: Mode,
+    mode: &Mode,
     wanted: Wanted,
 ) -> Result<Answered, ServeError>
-    requires steps { (1 ≤ mode.steps) × (mode.steps ≤ 100000000) }
+    requires steps { (1 ≤ mode.now.steps) × (mode.now.steps ≤ 100000000) }
 
     // The bytes are a bundle that has each root and the prelude. The text is its report, and the answer is whether each
     // module of it is ok.
     ensures ok { IfOk result (λ a.
-        IsAnswerTo (asked_by roots.now prelude.entry bytes.now) wanted mode a.text.items a.all_ok) }
+        IsAnswerTo (recording mode.now (asked_by roots.now prelude.entry bytes.now)) wanted mode.now
+        a.text.items a.all_ok) }
 
     // The refusal is the first that the rules give, or an allocation failed, or a module was not published.
-    ensures refused { IfErr result (IsRefusedBy (asked_by roots.now prelude.entry bytes.now)) }
+    ensures refused { IfErr result (IsRefusedBy (recording mode.now (asked_by roots.now prelude.entry bytes.now))) }
 {
     let asked = match input_of(alloc, bytes, roots, prelude) {
         Ok(asked) => asked,
         Err(error) => return Err(error),
     };
+    if !are_recordable(mode.language.recorded.names()) {
+        return Err(ServeError::BadRecord);
+    }
     match answer_asked(alloc, &asked, mode, seed_of(bytes), wanted) {
         Ok(answered) => Ok(answered),
         Err(error) => Err(error),

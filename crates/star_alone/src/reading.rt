@@ -8,7 +8,7 @@ ghost use Rattle.star_reading.specs.Found.{HasFound, HasFoundWith, IsReadOf, IsR
 ghost use Rattle.star_reading.specs.Parsed.{IsParsed};
 ghost use Rattle.star_reading.specs.Readings.{IsPlaceable, IsReadAs};
 
-use star_dialect::Dialect;
+use star_dialect::Language;
 use star_label::files::Files as Labels;
 use star_lex::token::SyntaxFault;
 use star_outcome::shelf::Shelf;
@@ -113,7 +113,7 @@ struct Reader<'s, 't> {
     files: &'s Labels,
     trees: &'t Shelf<Tree>,
     prelude: Option<&'s Prelude<'t>>,
-    dialect: Dialect,
+    language: &'s Language,
     roots: &'s [usize],
 }
 
@@ -122,10 +122,10 @@ impl<'s, 't> Reader<'s, 't> {
     fn read(&self, n: usize) -> Result<Read<'t>, ReadError>
         requires file { n < length self.now.files.now }
         requires cells { length self.now.trees.now ≡ length self.now.files.now + 1 }
-        ensures { IfOk result (IsReadAs self.now.files.now (outside_seen self.now.prelude self.now.dialect) n) }
+        ensures { IfOk result (IsReadAs self.now.files.now (outside_seen self.now.prelude self.now.language) n) }
     {
         match parsed_at(self.alloc, self.files, self.trees, n, n)? {
-            Ok(tree) => Ok(resolved(self.alloc, self.files, self.prelude, self.dialect, n, tree)?),
+            Ok(tree) => Ok(resolved(self.alloc, self.files, self.prelude, self.language, n, tree)?),
             Err(fault) => match of_syntax(fault) {
                 Some(fault) => Ok(Read::Fault(fault)),
                 None => unreachable!(),
@@ -138,11 +138,11 @@ impl<'s, 't> Reader<'s, 't> {
         requires file { n < length self.now.files.now }
         requires cells { length self.now.trees.now ≡ length self.now.files.now + 1 }
         requires prelude { IfSome self.now.prelude (λ p. p.now.file < length self.now.files.now) }
-        requires found { HasFoundWith self.now.files.now (outside_seen self.now.prelude self.now.dialect)
+        requires found { HasFoundWith self.now.files.now (outside_seen self.now.prelude self.now.language)
             self.now.roots.now found.old
             n }
         ensures found { OnOk result
-            (HasFound self.now.files.now (outside_seen self.now.prelude self.now.dialect) self.now.roots.now
+            (HasFound self.now.files.now (outside_seen self.now.prelude self.now.language) self.now.roots.now
             found.new) }
         ensures left { OnOk result (left_of found.new.marks.items found.new.todo.items
             ≡ left_of found.old.marks.items found.old.todo.items) }
@@ -161,7 +161,7 @@ impl<'s, 't> Reader<'s, 't> {
         requires roots { Within self.now.files.now self.now.roots.now }
         requires cells { length self.now.trees.now ≡ length self.now.files.now + 1 }
         requires prelude { IfSome self.now.prelude (λ p. p.now.file < length self.now.files.now) }
-        ensures { IfOk result (λ row. IsRowOf self.now.files.now (outside_seen self.now.prelude self.now.dialect)
+        ensures { IfOk result (λ row. IsRowOf self.now.files.now (outside_seen self.now.prelude self.now.language)
             self.now.roots.now row.items) }
     {
         let mut found = Found::from_roots(self.alloc, self.files, self.roots)?;
@@ -179,26 +179,26 @@ fn read_by<'s, 't>(
     files: &'s Labels,
     trees: &'t Shelf<Tree>,
     prelude: Option<&'s Prelude<'t>>,
-    dialect: Dialect,
+    language: &'s Language,
     roots: &'s [usize],
 ) -> Result<Vec<Option<Read<'t>>>, ReadError>
     requires roots { Within files.now roots.now }
     requires cells { length trees.now ≡ length files.now + 1 }
     requires prelude { IfSome prelude (λ p. p.now.file < length files.now) }
-    ensures { IfOk result (λ row. IsRowOf files.now (outside_seen prelude.entry dialect) roots.now row.items) }
+    ensures { IfOk result (λ row. IsRowOf files.now (outside_seen prelude.entry language.entry) roots.now row.items) }
 {
     let reader = Reader {
         alloc,
         files,
         trees,
         prelude,
-        dialect,
+        language,
         roots,
     };
     reader.read_all()
 }
 
-/// Reads all files that the roots reach, one after another: of each its program in a dialect, or its static fault. The
+/// Reads all files that the roots reach, one after another: of each its program in a language, or its static fault. The
 /// trees have cells of their own (`tree_cells`). `Memory` where a growth is refused, `Unpublished` where a cell has a
 /// tree already.
 pub fn read_alone<'t>(
@@ -207,16 +207,16 @@ pub fn read_alone<'t>(
     trees: &'t Shelf<Tree>,
     roots: &[usize],
     prelude: Option<usize>,
-    dialect: Dialect,
+    language: &Language,
 ) -> Result<Reads<'t>, ReadError>
     requires roots { Within files.now roots.now }
     requires cells { length trees.now ≡ length files.now + 1 }
     requires prelude { IfSome prelude (λ n. n < length files.now) }
-    ensures read { IfOk result (λ reads. IsReadOf files.now roots.now prelude dialect reads.all.items) }
+    ensures read { IfOk result (λ reads. IsReadOf files.now roots.now prelude language.now reads.all.items) }
     ensures placeable { IfOk result (λ reads. All IsPlaceable reads.all.items) }
 {
     let block = block_of(alloc, files, trees, prelude)?;
-    let all = read_by(alloc, files, trees, block.as_ref(), dialect, roots)?;
+    let all = read_by(alloc, files, trees, block.as_ref(), language, roots)?;
     let others = Vec::new(alloc);
     Ok(Reads { all, others })
 }

@@ -118,16 +118,16 @@ fn run_over<'s, 'r, 't>(
     options: RunOptions<'s>,
 ) -> Result<Ended, RunError>
     requires prelude { IfSome options.prelude (λ p. p < length files.now) }
-    requires steps { (1 ≤ options.mode.steps) × (options.mode.steps ≤ 100000000) }
+    requires steps { (1 ≤ options.mode.now.steps) × (options.mode.now.steps ≤ 100000000) }
     requires cells { length modules.now ≡ length files.now }
-    requires read { IsReadOf files.now options.roots.now options.prelude options.mode.dialect reads.now.all.items }
+    requires read { IsReadOf files.now options.roots.now options.prelude options.mode.now.language reads.now.all.items }
     requires placeable { All IsPlaceable reads.now.all.items }
     ensures kept { IfOk result (λ c. AllKept modules.now c.kept.items) }
     ensures modules { let o = options.entry in
-        IfOk result (λ c. AreModulesOf files.now o.roots.now o.prelude o.mode c.kept.items) }
+        IfOk result (λ c. AreModulesOf files.now o.roots.now o.prelude o.mode.now c.kept.items) }
     ensures begun { IfOk result (λ c. c.begun ≡ vec_len c.kept) }
     ensures refused { let o = options.entry in
-        IfOk result (λ c. AreRefusalsOf files.now o.roots.now o.prelude o.mode c.refused.items) }
+        IfOk result (λ c. AreRefusalsOf files.now o.roots.now o.prelude o.mode.now c.refused.items) }
 {
     let programs = programs(alloc, reads)?;
     let common = LoadContext::new(alloc, files, reads, &programs, modules, &[], options);
@@ -158,17 +158,17 @@ pub fn run_alone<'t>(
     requires cells { length trees.now ≡ length files.now + 1 }
     requires roots { Within files.now options.roots.now }
     requires prelude { IfSome options.prelude (λ n. n < length files.now) }
-    requires steps { (1 ≤ options.mode.steps) × (options.mode.steps ≤ 100000000) }
+    requires steps { (1 ≤ options.mode.now.steps) × (options.mode.now.steps ≤ 100000000) }
     ensures read { let o = options.entry in
-        IfOk result (λ _. IsReadOf files.now o.roots.now o.prelude o.mode.dialect reads.new.all.items) }
+        IfOk result (λ _. IsReadOf files.now o.roots.now o.prelude o.mode.now.language reads.new.all.items) }
     ensures files { IfOk result (λ r. length r.cells ≡ length files.now) }
     ensures modules { let o = options.entry in
-        IfOk result (λ r. AreModulesOf files.now o.roots.now o.prelude o.mode r.kept) }
+        IfOk result (λ r. AreModulesOf files.now o.roots.now o.prelude o.mode.now r.kept) }
     ensures begun { IfOk result (λ r. r.begun ≡ length r.kept) }
     ensures sum { IfOk result (λ r. sum r.per_loader ≡ r.begun) }
     ensures counts { IfOk result (λ r. AreCounts 1 r.begun r.per_loader) }
     ensures refused { let o = options.entry in
-        IfOk result (λ r. AreRefusalsOf files.now o.roots.now o.prelude o.mode r.refused) }
+        IfOk result (λ r. AreRefusalsOf files.now o.roots.now o.prelude o.mode.now r.refused) }
 {
     let modules = Shelf::new(alloc, files.len())?;
     *reads = match read_alone(
@@ -177,7 +177,7 @@ pub fn run_alone<'t>(
         trees,
         options.roots,
         options.prelude,
-        options.mode.dialect,
+        &options.mode.language,
     ) {
         Ok(reads) => reads,
         Err(error) => return Err(unread(error)),

@@ -9,14 +9,24 @@ use Rattle.star_meaning.specs.Run.{Action, check}
 use Rattle.star_meaning.specs.Program.{Setting}
 use Rattle.star_meaning.specs.Values.{new_text}
 use Rattle.star_meaning.specs.declared.given.Arguments.{Arguments}
+use Rattle.star_meaning.specs.Recorded.{call_recorded, inputs_of, json_member}
 use Rattle.star_meaning.specs.Json.{built, call_decode, call_encode, call_encode_indent, decoded, decoded_items, decoded_members, text_or}
-use Rattle.star_bound.proofs.Within.{Bounded, bounded_give, bounded_then}
+use Rattle.star_bound.proofs.Within.{Bounded, bounded_give, bounded_record, bounded_then}
 use Rattle.star_bound.proofs.Bounds.{bounded}
 use Rattle.star_bound.proofs.BoundArguments.{bounded-positional, bounded-only_one}
 use Rattle.star_bound.proofs.BoundValues.{bounded-encoded, bounded-new_text, bounded-new_int, bounded-new_list, bounded-new_dict, bounded-want_text}
 
 pub bounded-call_encode : (w : Setting) (levels : ℕ) (line : ℕ) (g : Arguments) → Bounded (call_encode w levels line g)
 bounded-call_encode w levels line g = search (bounded, bounded-encoded, bounded-new_text, bounded-positional, bounded-only_one) depth 14
+
+pub bounded-json_member : (w : Setting) (levels : ℕ) (line : ℕ) (f : List ℕ × Value) → Bounded (json_member w levels line f)
+bounded-json_member w levels line f = search (bounded, bounded-encoded) depth 14
+
+pub bounded-inputs_of : (w : Setting) (levels : ℕ) (line : ℕ) (g : Arguments) → Bounded (inputs_of w levels line g)
+bounded-inputs_of w levels line g = search (bounded, bounded-encoded, bounded-json_member) depth 14
+
+pub bounded-call_recorded : (w : Setting) (levels : ℕ) (line : ℕ) (i : ℕ) (g : Arguments) → Bounded (call_recorded w levels line i g)
+bounded-call_recorded w levels line i g = search (bounded, bounded-inputs_of, bounded_record) depth 14
 
 pub bounded-text_or : (w : Setting) (line : ℕ) (otherwise : List ℕ) (o : Option Value) → Bounded (text_or w line otherwise o)
 bounded-text_or w line otherwise None = search bounded depth 14

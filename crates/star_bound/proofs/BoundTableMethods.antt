@@ -62,4 +62,4 @@ bounded-named : (w : Setting) (line : ℕ) (name t : List ℕ) (g : Arguments) �
 bounded-named w line name t g = search (bounded, bounded-call_in_table) depth 14
 
 pub bounded-call_wider : (w : Setting) (line : ℕ) (name t : List ℕ) (g : Arguments) (core : Action Value) → Bounded core → Bounded (call_wider w line name t g core)
-bounded-call_wider w line name t g core h = bounded-in_dialect w.dialect core _ h (bounded-named w line name t g)
+bounded-call_wider w line name t g core h = bounded-in_dialect w.language.dialect core _ h (bounded-named w line name t g)

@@ -9,6 +9,7 @@ use Rattle.star_meaning.specs.Run.{Action, check}
 use Rattle.star_meaning.specs.Program.{Setting}
 use Rattle.star_meaning.specs.Values.{new_text}
 use Rattle.star_meaning.specs.declared.given.Arguments.{Arguments}
+use Rattle.star_meaning.specs.Recorded.{call_recorded, inputs_of, json_member}
 use Rattle.star_meaning.specs.Json.{built, call_decode, call_encode, call_encode_indent, decoded, decoded_items, decoded_members, text_or}
 use Rattle.star_bound.proofs.Narrow.{narrow, narrow_give, narrow_then, Narrows}
 use Rattle.star_bound.proofs.NarrowArguments.{narrow-positional, narrow-only_one}
@@ -16,6 +17,15 @@ use Rattle.star_bound.proofs.NarrowValues.{narrow-encoded, narrow-new_text, narr
 
 pub narrow-call_encode : {most : ℕ} → (w : Setting) (levels : ℕ) (line : ℕ) (g : Arguments) → Narrows most (call_encode w levels line g)
 narrow-call_encode w levels line g = search (narrow, narrow-encoded, narrow-new_text, narrow-positional, narrow-only_one) depth 14
+
+pub narrow-json_member : {most : ℕ} → (w : Setting) (levels : ℕ) (line : ℕ) (f : List ℕ × Value) → Narrows most (json_member w levels line f)
+narrow-json_member w levels line f = search (narrow, narrow-encoded) depth 14
+
+pub narrow-inputs_of : {most : ℕ} → (w : Setting) (levels : ℕ) (line : ℕ) (g : Arguments) → Narrows most (inputs_of w levels line g)
+narrow-inputs_of w levels line g = search (narrow, narrow-encoded, narrow-json_member) depth 14
+
+pub narrow-call_recorded : {most : ℕ} → (w : Setting) (levels : ℕ) (line : ℕ) (i : ℕ) (g : Arguments) → Narrows most (call_recorded w levels line i g)
+narrow-call_recorded w levels line i g = search (narrow, narrow-inputs_of) depth 14
 
 pub narrow-text_or : {most : ℕ} → (w : Setting) (line : ℕ) (otherwise : List ℕ) (o : Option Value) → Narrows most (text_or w line otherwise o)
 narrow-text_or w line otherwise None = search narrow depth 14

@@ -61,4 +61,4 @@ narrow-named : {most : ℕ} → (w : Setting) (line : ℕ) (name t : List ℕ) (
 narrow-named w line name t g = search (narrow, narrow-call_in_table) depth 14
 
 pub narrow-call_wider : {most : ℕ} → (w : Setting) (line : ℕ) (name t : List ℕ) (g : Arguments) (core : Action Value) → Narrows most core → Narrows most (call_wider w line name t g core)
-narrow-call_wider w line name t g core h = narrow-in_dialect w.dialect core _ h (narrow-named w line name t g)
+narrow-call_wider w line name t g core h = narrow-in_dialect w.language.dialect core _ h (narrow-named w line name t g)

@@ -8,3 +8,4 @@ pub mod Loops
 pub mod Merging
 pub mod NewNames
 pub mod Pairs
+pub mod RecordedCalls

@@ -1,7 +1,8 @@
 -- Loops over lists go on item by item.
 use Rattle.std.proofs.Common.{◌≡◌, ℕ, ◌+◌, ◌<◌, List, [], ◌∷◌, ◌++◌, length, drop, get_or, min, add-one, refl, ap, sym, ◌∙◌, append_assoc, arith}
 use Rattle.std.proofs.Math.Seq.{drop-cons}
-use Rattle.star_meaning.specs.BuiltIns.{joined, least}
+use Rattle.star_meaning.specs.BuiltIns.{least}
+use Rattle.star_meaning.specs.Texts.{joined}
 
 least_two : (m n : ℕ) (ns : List ℕ) → least (min m n ∷ ns) ≡ least (m ∷ n ∷ ns)
 least_two m n [] = refl

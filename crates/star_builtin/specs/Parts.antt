@@ -4,10 +4,12 @@ use Rattle.std.specs.List.{list_any}
 use Rattle.star_store.specs.declared.values.Value.{Value}
 use Rattle.star_outline.specs.Names.{same_name}
 use Rattle.star_meaning.specs.declared.fault.FaultCode.TheVariants as code
-use Rattle.star_meaning.specs.Run.{Action, ◌>>=◌, give, pay, check, found, each, add_line}
+use Rattle.star_meaning.specs.declared.said.Said.TheVariants.{Line}
+use Rattle.star_meaning.specs.Run.{Action, ◌>>=◌, give, pay, check, found, each, add_said}
 use Rattle.star_meaning.specs.Program.{Setting}
 use Rattle.star_meaning.specs.Values.{with_content, want_int, new_int, new_text, new_tuple, str}
-use Rattle.star_meaning.specs.BuiltIns.{length_in, range_of, is_range_count, joined}
+use Rattle.star_meaning.specs.BuiltIns.{length_in, range_of, is_range_count}
+use Rattle.star_meaning.specs.Texts.{joined}
 
 -- the length of a value
 abbrev pub length_of : Setting → ℕ → Value → Action Value
@@ -32,7 +34,7 @@ abbrev pub said : Setting → ℕ → ℕ → List ℕ → List Value → Action
 said w levels line by xs = do
   ts ← each (str w levels line) xs
   _ ← pay line (1 + length (joined by ts))
-  add_line (joined by ts)
+  add_said (Line (joined by ts))
 
 -- a number, or 2^64 if it is not below: not an int of 64 bits either way
 abbrev pub capped : ℕ → ℕ

@@ -13,6 +13,7 @@ use crate::encoding::{call_encode, call_encode_indent};
 use crate::numbers::{call_abs, call_len};
 use crate::print::{Form, call_fail, call_print, call_text, call_type};
 use crate::ranges::call_range;
+use crate::recorded::call_recorded;
 use crate::rows::{Row, call_enumerate, call_reversed, call_row, call_zip};
 use crate::sets::call_set;
 use crate::sorted::call_sorted;
@@ -68,6 +69,7 @@ fn run_built_in(machine: &mut Machine, built_in: BuiltIn, call: &Call) -> Result
         BuiltIn::JsonDecode => call_decode(machine, call),
         BuiltIn::JsonEncode => call_encode(machine, call),
         BuiltIn::JsonEncodeIndent => call_encode_indent(machine, call),
+        BuiltIn::Recorded(place) => call_recorded(machine, call, place),
     }
 }
 

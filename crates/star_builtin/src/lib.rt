@@ -25,6 +25,7 @@ pub mod numbers;
 pub mod orders;
 pub mod print;
 pub mod ranges;
+pub mod recorded;
 pub mod rows;
 pub mod sets;
 pub mod sorted;

@@ -2,6 +2,7 @@
 
 ghost use Rattle.std.specs.Prelude.{◌≡◌, ◌∷◌, IfOk, OnOk};
 ghost use Rattle.star_meaning.specs.BuiltIns as spec;
+ghost use Rattle.star_meaning.specs.Texts.{joined};
 ghost use Rattle.star_machine.specs.Refines.{Refines, RefinesBy};
 ghost use Rattle.star_meaning.specs.Run.{each};
 ghost use Rattle.star_machine.specs.Shown.{shown};
@@ -15,6 +16,7 @@ use star_machine::fault::{EvalError, fault_at};
 use star_machine::machine::Machine;
 use star_machine::setting::Setting;
 use star_meaning::fault::FaultCode;
+use star_meaning::said::Said;
 use star_store::values::{Cell, Value};
 use star_text::Text;
 use star_visit::draft::Draft;
@@ -42,7 +44,7 @@ fn texts(
 
 /// Puts drafts after a line, each after a text.
 fn push_texts(line: &mut Draft, by: &Text, texts: Vec<Draft>) -> Result<(), AllocError>
-    ensures { OnOk result (line.new ≡ spec.joined by.now (line.old ∷ texts.items)) }
+    ensures { OnOk result (line.new ≡ joined by.now (line.old ∷ texts.items)) }
 {
     for text in texts {
         line.put(by)?;
@@ -52,8 +54,8 @@ fn push_texts(line: &mut Draft, by: &Text, texts: Vec<Draft>) -> Result<(), Allo
 }
 
 /// Drafts in one, with a text between each and the next.
-fn joined(alloc: Global, by: &Text, mut texts: Vec<Draft>) -> Result<Draft, AllocError>
-    ensures { IfOk result (λ t. t ≡ spec.joined by.now texts.items) }
+pub(crate) fn joined(alloc: Global, by: &Text, mut texts: Vec<Draft>) -> Result<Draft, AllocError>
+    ensures { IfOk result (λ t. t ≡ joined by.now texts.items) }
 {
     if texts.is_empty() {
         return Ok(Draft::new(alloc, 0));
@@ -78,7 +80,7 @@ fn say(
     let texts = texts(machine, setting, levels, line, values)?;
     let said = joined(machine.alloc(), by, texts)?;
     let said = machine.pay_for_draft(line, said)?;
-    machine.add_line(said)
+    machine.add_said(Said::Line(said))
 }
 
 /// The name of the type of a content.

@@ -143,7 +143,7 @@ fn sort_items(
     values: &[Value],
 ) -> Result<Value, EvalError>
     ensures { Refines (spec.sort_items call.now.setting.now call.now.levels call.now.line backwards values.now
-        call.now.setting.now.dialect machine.old) result machine.new }
+        call.now.setting.now.language.dialect machine.old) result machine.new }
 {
     match call.setting.dialect() {
         Dialect::Core => sort(machine, call.setting, call.line, backwards, values),

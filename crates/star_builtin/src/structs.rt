@@ -18,7 +18,10 @@ use star_text::Text;
 use std::alloc::{AllocError, Global};
 
 /// The names and the values of keyword arguments.
-fn given_fields(alloc: Global, named: &[KeywordArgument]) -> Result<Vec<(Text, Value)>, AllocError>
+pub(crate) fn given_fields(
+    alloc: Global,
+    named: &[KeywordArgument],
+) -> Result<Vec<(Text, Value)>, AllocError>
     ensures { IfOk result (λ fields. fields.items ≡ spec.given_fields named.now) }
 {
     let mut fields = Vec::with_capacity(alloc, named.len())?;
@@ -29,7 +32,7 @@ fn given_fields(alloc: Global, named: &[KeywordArgument]) -> Result<Vec<(Text, V
 }
 
 /// Fields in byte order of their names.
-fn in_order(fields: Vec<(Text, Value)>) -> Result<Vec<(Text, Value)>, AllocError>
+pub(crate) fn in_order(fields: Vec<(Text, Value)>) -> Result<Vec<(Text, Value)>, AllocError>
     ensures { IfOk result (λ sorted. sorted.items ≡ in_order is_before fields.items) }
 {
     let mut fields = fields;

@@ -1,7 +1,7 @@
 -- Why there is no report: the refusals, the text of each on standard error, and the exit status.
-use Rattle.std.specs.Prelude.{◌≡◌, ⊤, ℕ, List, Bool, true, false, Result, Ok, Err, codes}
+use Rattle.std.specs.Prelude.{◌≡◌, ⊤, ℕ, List, Bool, true, false, Result, Ok, Err, codes, if◌then◌else◌}
 use Rattle.star_bundle.specs.declared.error.ServeError.{ServeError}
-use Rattle.star_bundle.specs.declared.error.ServeError.TheVariants.{Read, TooBig, BadDir, BadFile, NotText, BadBundle, BadKey, TooMany, TooLong, BadRoot, NoRoot, BadPrelude, NoPrelude, Memory, Write, Unpublished}
+use Rattle.star_bundle.specs.declared.error.ServeError.TheVariants.{Read, TooBig, BadDir, BadFile, NotText, BadBundle, BadKey, TooMany, TooLong, BadRoot, NoRoot, BadPrelude, NoPrelude, BadRecord, Memory, Write, Unpublished}
 
 abbrev pub text_of : ServeError → List ℕ
 text_of Read = codes "cannot read the bundle"
@@ -17,6 +17,7 @@ text_of BadRoot = codes "bad root"
 text_of NoRoot = codes "no such root"
 text_of BadPrelude = codes "bad prelude"
 text_of NoPrelude = codes "no such prelude"
+text_of BadRecord = codes "bad record"
 text_of Memory = codes "out of memory"
 text_of Write = codes "cannot write the report"
 text_of Unpublished = codes "module not published"
@@ -26,6 +27,11 @@ abbrev pub status_of : Result Bool ServeError → ℕ
 status_of (Ok true) = 0
 status_of (Ok false) = 1
 status_of (Err e) = 2
+
+-- what is asked for, or a refusal that comes after all others of the input, if a test fails
+abbrev pub if_so : {A : Type 0} → Bool → ServeError → Result A ServeError → Result A ServeError
+if_so test refusal (Ok x) = if test then Ok x else Err refusal
+if_so test refusal (Err e) = Err e
 
 -- The answer of a function, seen by `view`, is the answer of the definition, unless memory ran out.
 abbrev pub Fails : {Y : Type 0} → ServeError → Result Y ServeError → Type 0

@@ -1,7 +1,7 @@
 //! The refusals: why there is no report, their texts, and the exit status.
 
 ghost use Rattle.std.specs.Prelude.{◌≡◌};
-ghost use Rattle.star_bundle.specs.Refusal.{text_of, status_of};
+ghost use Rattle.star_bundle.specs.Refusal.{status_of, text_of};
 ghost use Rattle.star_bundle.specs.declared.error.ServeError.TheVariants.{Memory};
 
 use std::alloc::{AllocError, AllocFailed};
@@ -37,6 +37,8 @@ pub enum ServeError {
     BadPrelude,
     /// The prelude is the label of no file.
     NoPrelude,
+    /// A name whose calls are to be recorded is no such name, or the calls of another name are asked for.
+    BadRecord,
     /// An allocation failed. It may come at any point.
     Memory,
     /// A write failed. The output may be partial.
@@ -64,6 +66,7 @@ impl ServeError {
             ServeError::NoRoot => "no such root",
             ServeError::BadPrelude => "bad prelude",
             ServeError::NoPrelude => "no such prelude",
+            ServeError::BadRecord => "bad record",
             ServeError::Memory => "out of memory",
             ServeError::Write => "cannot write the report",
             ServeError::Unpublished => "module not published",

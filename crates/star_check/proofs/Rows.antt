@@ -196,7 +196,7 @@ check_all files row plan n ms planned is end below = record {
 -- each needed file is in the row
 pub rows_within : (row : Row) (rows : sound.Needs) → rows ≡ map needs_in (readings row) → LeadWithin row → sound.AreWithin rows
 rows_within row rows e lead n ns has =
-    let plan : Plan = record { roots = []; prelude = None; mode = record { steps = 0; dialect = Core }; reads = readings row } in
+    let plan : Plan = record { roots = []; prelude = None; mode = record { steps = 0; language = record { dialect = Core; recorded = [] } }; reads = readings row } in
     let its : sound.NeedsAll (needs plan) n ns = subst (λ rs. sound.NeedsAll rs n ns) e has in
     let same : ns ≡ map (λ (l : Load). l.file) (loads_at row n) = needs_loaded plan n ns its ∙ ap (map (λ (l : Load). l.file)) (loads_are plan row n refl) in
     let size : length rows ≡ length row = ap length e ∙ (length-map (readings row) needs_in ∙ length-map row (option_map reading_of)) in

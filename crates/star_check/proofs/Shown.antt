@@ -1,18 +1,20 @@
 -- The text of a check, and its answer.
-use Rattle.std.proofs.Common.{arith, ◌≡◌, ◌<◌, ◌+◌, ℕ, List, [], ◌∷◌, ◌++◌, Bool, true, false, length, map, take, get_or, refl, ap, sym, subst, ◌∙◌}
+use Rattle.std.proofs.Common.{Ordering, Less, Equal, Greater, arith, ◌≡◌, ◌<◌, ◌+◌, ℕ, List, [], ◌∷◌, ◌++◌, Bool, true, false, ◌||◌, length, map, take, get_or, refl, ap, sym, subst, ◌∙◌}
 use Rattle.std.specs.Prelude.{All, Contains, codes, filter}
+use Rattle.std.specs.Ordering.{match_ordering, nat_cmp}
+use Rattle.std.specs.Cmp.Lexicographic.{slice_cmp}
 use Rattle.std.proofs.lemmas.List.{get_or-map, length-map}
 use Rattle.std.proofs.lemmas.List.Elements.{All-contains, All-map, Contains-get_or}
-use Rattle.serde_json.specs.Data.{Data, array, member, no_members, number, object, string, unsigned}
+use Rattle.serde_json.specs.Data.{Data, Members, array, boolean, member, no_items, no_members, null, number, object, put, string, unsigned}
 use Rattle.serde_json.specs.View.{items_of}
-use Rattle.serde_json.specs.Written.{compact_text, has_float, items_have_float}
+use Rattle.serde_json.specs.Written.{compact_text, has_float, items_have_float, members_have_float}
 use Rattle.star_label.specs.Files.{File, label_at}
 use Rattle.star_plan.specs.Causes.{Cause, Culprit, Cycle}
 use Rattle.star_plan.specs.Plan.{Plan}
 use Rattle.star_plan.specs.Text.{load_data}
 use Rattle.star_check.specs.Check.{AtFault, Fails, IsCheck, IsSound, IsVerdict, Module, Unrun, Verdict}
 use Rattle.star_check.specs.Judged.{judged_view, shown_of, verdict_view}
-use Rattle.star_check.specs.Text.{IsCheckAnswer, check_text, is_shown, is_unrun, module_data, verdict_data}
+use Rattle.star_check.specs.Text.{IsCheckAnswer, check_text, is_shown, is_unrun, module_data, verdict_data, with_no_calls}
 use Rattle.star_check.specs.declared.verdict.Judged.{Judged}
 use Rattle.star_check.proofs.Judgements.{fault_unsound, lack_unsound}
 
@@ -31,9 +33,34 @@ verdict_plain files label (AtFault f) = refl
 verdict_plain files label (Fails cause line) = load_plain files label cause line
 verdict_plain files label Unrun = refl
 
-pub modules_plain : (files : List File) (ms : List Module) → items_have_float (items_of (map (module_data files) ms)) ≡ false
-modules_plain files [] = refl
-modules_plain files (m ∷ ms) = rw (verdict_plain files (label_at files m.file) m.verdict) (modules_plain files ms)
+neither_float : (a b : Bool) → (a || b) ≡ false → (a ≡ false) × (b ≡ false)
+neither_float true b h = absurd (let no : ⊥ = cc in no)
+neither_float false b h = (refl, h)
+
+placed_plain : (o : Ordering) (d f : Data) (k l : List ℕ) (ms ns : Members) → has_float d ≡ false → has_float f ≡ false → members_have_float ms ≡ false → members_have_float ns ≡ false
+    → members_have_float (match_ordering o (member k d (member l f ms)) (member l d ms) (member l f ns)) ≡ false
+placed_plain Less d f k l ms ns hd hf hm hn = rw (hd, hf) hm
+placed_plain Equal d f k l ms ns hd hf hm hn = rw hd hm
+placed_plain Greater d f k l ms ns hd hf hm hn = rw hf hn
+
+put_plain : (k : List ℕ) (d : Data) (ms : Members) → has_float d ≡ false → members_have_float ms ≡ false → members_have_float (put k d ms) ≡ false
+put_plain k d no_members e h = rw e refl
+put_plain k d (member l f ms) e h =
+    let both = neither_float (has_float f) (members_have_float ms) h in
+    placed_plain (slice_cmp nat_cmp k l) d f k l ms (put k d ms) e both.0 both.1 (put_plain k d ms e both.1)
+
+none_plain : (calls : Bool) (d : Data) → has_float d ≡ false → has_float (with_no_calls calls d) ≡ false
+none_plain true (object ms) h = put_plain (codes "calls") (array no_items) ms refl h
+none_plain true null h = h
+none_plain true (boolean b) h = h
+none_plain true (number n) h = h
+none_plain true (string t) h = h
+none_plain true (array ds) h = h
+none_plain false d h = h
+
+pub modules_plain : (calls : Bool) (files : List File) (ms : List Module) → items_have_float (items_of (map (λ m. with_no_calls calls (module_data files m)) ms)) ≡ false
+modules_plain calls files [] = refl
+modules_plain calls files (m ∷ ms) = rw (none_plain calls (module_data files m) (verdict_plain files (label_at files m.file) m.verdict)) (modules_plain calls files ms)
 
 -- ---- the answer
 
@@ -98,10 +125,10 @@ all_taken P js i end all = subst (All P) (ap (λ k. take k js) end ∙ take_leng
 abbrev pub data_of : List Data → Data
 data_of modules = object (member (codes "begun") (number (unsigned 0)) (member (codes "modules") (array (items_of modules)) no_members))
 
-pub text_is : (files : List File) (only : Bool) (roots : List ℕ) (js : List Judged) (value : Data) (modules : List Data) (bytes text : List ℕ) → value ≡ data_of modules → modules ≡ shown_of files only roots js
-    → (has_float value ≡ false → bytes ≡ compact_text value) → text ≡ bytes ++ 10 ∷ [] → text ≡ check_text only files roots (map judged_view js)
+pub text_is : (files : List File) (only calls : Bool) (roots : List ℕ) (js : List Judged) (value : Data) (modules : List Data) (bytes text : List ℕ) → value ≡ data_of modules → modules ≡ shown_of files only calls roots js
+    → (has_float value ≡ false → bytes ≡ compact_text value) → text ≡ bytes ++ 10 ∷ [] → text ≡ check_text only calls files roots (map judged_view js)
 unfolding check_text
-text_is files only roots js value modules bytes text is were exact more =
-    let same : value ≡ data_of (shown_of files only roots js) = is ∙ ap data_of were in
-    let plain : has_float (data_of (shown_of files only roots js)) ≡ false = rw (modules_plain files (filter (is_shown only roots) (map judged_view js))) refl in
+text_is files only calls roots js value modules bytes text is were exact more =
+    let same : value ≡ data_of (shown_of files only calls roots js) = is ∙ ap data_of were in
+    let plain : has_float (data_of (shown_of files only calls roots js)) ≡ false = rw (modules_plain calls files (filter (is_shown only roots) (map judged_view js))) refl in
     more ∙ ap (λ b. b ++ 10 ∷ []) (exact (ap has_float same ∙ plain) ∙ ap compact_text same)

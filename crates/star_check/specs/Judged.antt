@@ -18,7 +18,7 @@ use Rattle.star_sound.specs.declared.sound.Prospect.{Prospect}
 use Rattle.star_sound.specs.declared.sound.Prospect.TheVariants.{Lacks}
 use Rattle.star_check.specs.Check as check
 use Rattle.star_check.specs.Check.{FailsBy, IsFirstLack, IsVerdict, needs}
-use Rattle.star_check.specs.Text.{IsCheckAnswer, IsCheckText, is_shown, module_data}
+use Rattle.star_check.specs.Text.{IsCheckAnswer, IsCheckText, shown_data}
 use Rattle.star_check.specs.declared.verdict.Judged.{Judged}
 use Rattle.star_check.specs.declared.verdict.Verdict.{Verdict}
 use Rattle.star_check.specs.declared.verdict.Verdict.TheVariants.{AtFault, Fails, Unrun}
@@ -83,12 +83,11 @@ TellsNext row nexts n p old new =
     → IsCheckBelow plan n (map judged_view old) → IsCheckBelow plan (n + 1) (map judged_view new)
 
 -- the modules that are shown
-abbrev pub shown_of : List File → Bool → List ℕ → List Judged → List Data
-shown_of files only_roots roots js =
-    map (module_data files) (filter (is_shown only_roots roots) (map judged_view js))
+abbrev pub shown_of : List File → Bool → Bool → List ℕ → List Judged → List Data
+shown_of files only_roots calls roots js = shown_data only_roots calls files roots (map judged_view js)
 
 -- this text and this answer are the check of these files for roots, by their readings
-abbrev pub ChecksRead : Bool → List File → List ℕ → Row → List ℕ → Bool → Type 0
-ChecksRead only_roots files roots row text ok =
+abbrev pub ChecksRead : Bool → Bool → List File → List ℕ → Row → List ℕ → Bool → Type 0
+ChecksRead only_roots calls files roots row text ok =
     (plan : Plan) → IsPlanOf files plan → readings row ≡ plan.reads → plan.roots ≡ roots
-    → IsCheckText only_roots files plan text × IsCheckAnswer plan ok
+    → IsCheckText only_roots calls files plan text × IsCheckAnswer plan ok

@@ -1,7 +1,7 @@
 -- The text of a check: one compact JSON value, the keys of its objects in byte order, and a line end.
 use Rattle.std.specs.Prelude.{◌≡◌, ◌↔◌, ℕ, List, [], ◌∷◌, ◌++◌, Bool, true, false, not, ◌||◌, codes, filter, map, nat_eq}
 use Rattle.std.specs.List.{list_any}
-use Rattle.serde_json.specs.Data.{Data, array, member, no_members, number, object, string, unsigned}
+use Rattle.serde_json.specs.Data.{Data, array, member, no_items, no_members, number, object, put, string, unsigned}
 use Rattle.serde_json.specs.View.{items_of}
 use Rattle.serde_json.specs.Written.{compact_text}
 use Rattle.star_label.specs.Files.{File, label_at}
@@ -39,14 +39,24 @@ check_data modules =
     object (member (codes "begun") (number (unsigned 0))
     (member (codes "modules") (array (items_of modules)) no_members))
 
-unfoldable pub check_text : Bool → List File → List ℕ → List Module → List ℕ
-check_text only_roots files roots modules =
-    compact_text (check_data (map (module_data files) (filter (is_shown only_roots roots) modules))) ++ 10 ∷ []
+-- an object with an empty row of calls, if calls are recorded: no file runs
+abbrev pub with_no_calls : Bool → Data → Data
+with_no_calls true (object ms) = object (put (codes "calls") (array no_items) ms)
+with_no_calls _ d = d
+
+-- the modules that are shown
+abbrev pub shown_data : Bool → Bool → List File → List ℕ → List Module → List Data
+shown_data only_roots calls files roots modules =
+    map (λ m. with_no_calls calls (module_data files m)) (filter (is_shown only_roots roots) modules)
+
+unfoldable pub check_text : Bool → Bool → List File → List ℕ → List Module → List ℕ
+check_text only_roots calls files roots modules =
+    compact_text (check_data (shown_data only_roots calls files roots modules)) ++ 10 ∷ []
 
 -- a text is the check of a plan
-abbrev pub IsCheckText : Bool → List File → Plan → List ℕ → Type 0
-IsCheckText only_roots files plan text =
-    (modules : List Module) × IsCheck plan modules × (text ≡ check_text only_roots files plan.roots modules)
+abbrev pub IsCheckText : Bool → Bool → List File → Plan → List ℕ → Type 0
+IsCheckText only_roots calls files plan text =
+    (modules : List Module) × IsCheck plan modules × (text ≡ check_text only_roots calls files plan.roots modules)
 
 -- the answer is whether all reached files are sound
 abbrev pub IsCheckAnswer : Plan → Bool → Type 0

@@ -38,21 +38,22 @@ fn are_unrun(judged: &[Judged]) -> bool
 }
 
 /// Checks the files that roots reach, by their readings, before any runs. Of the files with nothing against them the
-/// text may show the roots alone.
+/// text may show the roots alone. `calls` says whether each file has an empty row of calls.
 pub fn check(
     alloc: Global,
     files: &Labels,
     reads: &Reads,
     roots: &[usize],
     only_roots: bool,
+    calls: bool,
 ) -> Result<Checked, AllocError>
     requires sized { length reads.now.all.items ≡ length files.now }
     requires loads { LeadWithin reads.now.all.items }
-    ensures { IfOk result (λ c. ChecksRead only_roots files.now roots.now reads.now.all.items c.text.items c.all_ok) }
+    ensures { IfOk result (λ c. ChecksRead only_roots calls files.now roots.now reads.now.all.items c.text.items c.all_ok) }
 {
     let judged = judge(alloc, reads)?;
     let told = judged.as_slice();
-    let text = text_of(alloc, files, told, roots, only_roots)?;
+    let text = text_of(alloc, files, told, roots, only_roots, calls)?;
     let all_ok = are_unrun(told);
     Ok(Checked {
         judged,

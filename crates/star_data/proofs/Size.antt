@@ -327,18 +327,18 @@ plain_said : (d : Data) (t : List ℕ) → 2 * length (compact_text d) ≤ 3 * l
 plain_said d t h out new n left e = let more = said t out new n left e in omega (arith, h, more)
 
 -- the text that is written for a string is long enough, at any place
-key_said : (look : Value → Option Cell) (levels : ℕ) (path : List Value) (key : Value) (k : List ℕ) → key_in (cell_of look key) ≡ Some k → KeyEnough (text look levels path key) k
+key_said : (names : List (List ℕ)) (look : Value → Option Cell) (levels : ℕ) (path : List Value) (key : Value) (k : List ℕ) → key_in (cell_of look key) ≡ Some k → KeyEnough (text names look levels path key) k
 unfolding text
-key_said look zero path key k is out new n left e = absurd (let no : ⊥ = cc in no)
-key_said look (suc levels) path (value.Ref h a) k is out new n left e =
+key_said names look zero path key k is out new n left e = absurd (let no : ⊥ = cc in no)
+key_said names look (suc levels) path (value.Ref h a) k is out new n left e =
     let key = key_is (look (value.Ref h a)) k is in
     let there = is_text (look (value.Ref h a)) k key.0 in
-    let now = unvisited (say_value look (text look levels) path (value.Ref h a) out) n left new e in
-    let spoken : say (quoted k) out (n - 1) ≡ Enough new left = ap (λ c. say_cell (text look levels) path (value.Ref h a) c out (n - 1)) (sym there) ∙ now in
+    let now = unvisited (say_value names look (text names look levels) path (value.Ref h a) out) n left new e in
+    let spoken : say (quoted k) out (n - 1) ≡ Enough new left = ap (λ c. say_cell (text names look levels) path (value.Ref h a) c out (n - 1)) (sym there) ∙ now in
     let more = said (quoted k) out new (n - 1) left spoken in
     let short = string_long k key.1 in
     omega (arith, more, short)
-key_said look (suc levels) path _ k is out new n left e = absurd (let no : ⊥ = cc in no)
+key_said names look (suc levels) path _ k is out new n left e = absurd (let no : ⊥ = cc in no)
 
 -- the text that is written for a value is long enough, below every path whose values contain it
 abbrev SaidWithin : (Value → Option Cell) → (List Value → Value → Say) → (Value → Option Data) → Type 0
@@ -407,22 +407,22 @@ bool_short false = omega arith
 int_short : (z : ℤ) → 2 * length (compact_text (number (of_integer z))) ≤ 3 * length (signed_decimal z)
 int_short z = let same = ap length (int_text z) in omega (arith, same)
 
-value_said : (look : Value → Option Cell) → NamesArePlain look → (g : List Value → Value → Say) (n : ℕ) (path : List Value) (v : Value) → StandsInEach look path v → SaidWithin look g (data_of look n) → KeysSaid look g → (d : Data) → value_data look (data_of look n) v ≡ Some d → SaysEnough (say_value look g path v) d
-value_said look plain g n path value.NoneValue stands within keys d e = subst (SaysEnough (say (codes "None"))) (let same : null ≡ d = cc in same) (plain_said null (codes "None") (omega arith))
-value_said look plain g n path (value.Bool b) stands within keys d e = subst (SaysEnough (say (bool_text b))) (let same : boolean b ≡ d = cc in same) (plain_said (boolean b) (bool_text b) (bool_short b))
-value_said look plain g n path (value.Int z) stands within keys d e = subst (SaysEnough (say (signed_decimal z))) (int_is z d e).1 (plain_said (number (of_integer z)) (signed_decimal z) (int_short z))
-value_said look plain g n path (value.Ref h a) stands within keys d e = cell_said look plain g n path (value.Ref h a) stands within keys (look (value.Ref h a)) refl d e
-value_said look plain g n path (value.Builtin b) stands within keys d e = absurd (let no : ⊥ = cc in no)
+value_said : (names : List (List ℕ)) (look : Value → Option Cell) → NamesArePlain look → (g : List Value → Value → Say) (n : ℕ) (path : List Value) (v : Value) → StandsInEach look path v → SaidWithin look g (data_of look n) → KeysSaid look g → (d : Data) → value_data look (data_of look n) v ≡ Some d → SaysEnough (say_value names look g path v) d
+value_said names look plain g n path value.NoneValue stands within keys d e = subst (SaysEnough (say (codes "None"))) (let same : null ≡ d = cc in same) (plain_said null (codes "None") (omega arith))
+value_said names look plain g n path (value.Bool b) stands within keys d e = subst (SaysEnough (say (bool_text b))) (let same : boolean b ≡ d = cc in same) (plain_said (boolean b) (bool_text b) (bool_short b))
+value_said names look plain g n path (value.Int z) stands within keys d e = subst (SaysEnough (say (signed_decimal z))) (int_is z d e).1 (plain_said (number (of_integer z)) (signed_decimal z) (int_short z))
+value_said names look plain g n path (value.Ref h a) stands within keys d e = cell_said look plain g n path (value.Ref h a) stands within keys (look (value.Ref h a)) refl d e
+value_said names look plain g n path (value.Builtin b) stands within keys d e = absurd (let no : ⊥ = cc in no)
 
-long_enough : (look : Value → Option Cell) → NamesArePlain look → (levels n : ℕ) → SaidWithin look (text look levels) (data_of look n)
+long_enough : (names : List (List ℕ)) (look : Value → Option Cell) → NamesArePlain look → (levels n : ℕ) → SaidWithin look (text names look levels) (data_of look n)
 unfolding text data_of
-long_enough look plain zero n path v d stands some out new s left e = absurd (let no : ⊥ = cc in no)
-long_enough look plain (suc levels) zero path v d stands some out new s left e = absurd (let no : ⊥ = cc in no)
-long_enough look plain (suc levels) (suc n) path v d stands some out new s left e =
-    value_said look plain (text look levels) n path v stands (long_enough look plain levels n) (key_said look levels) d some out new (s - 1) left
-    (unvisited (say_value look (text look levels) path v out) s left new e)
+long_enough names look plain zero n path v d stands some out new s left e = absurd (let no : ⊥ = cc in no)
+long_enough names look plain (suc levels) zero path v d stands some out new s left e = absurd (let no : ⊥ = cc in no)
+long_enough names look plain (suc levels) (suc n) path v d stands some out new s left e =
+    value_said names look plain (text names look levels) n path v stands (long_enough names look plain levels n) (key_said names look levels) d some out new (s - 1) left
+    (unvisited (say_value names look (text names look levels) path v out) s left new e)
 
 pub is_no_longer : IsNoLonger
-is_no_longer look plain levels steps left n v t d e some =
-    let all = long_enough look plain levels n [] v d (starts look v) some [] t steps left e in
+is_no_longer names look plain levels steps left n v t d e some =
+    let all = long_enough names look plain levels n [] v d (starts look v) some [] t steps left e in
     omega (arith, all)

@@ -97,8 +97,8 @@ NamesArePlain look =
 -- then the JSON of a value is at most one and a half times as long as its text. A text shows names as they are
 abbrev pub IsNoLonger : Type 0
 IsNoLonger =
-    (look : Value → Option Cell) → NamesArePlain look → (levels steps left n : ℕ) (v : Value) (t : List ℕ) (d : Data)
-    → text look levels [] v [] steps ≡ Enough t left → data_of look n v ≡ Some d
+    (names : List (List ℕ)) (look : Value → Option Cell) → NamesArePlain look
+    → (levels steps left n : ℕ) (v : Value) (t : List ℕ) (d : Data) → text names look levels [] v [] steps ≡ Enough t left → data_of look n v ≡ Some d
     → 2 * length (compact_text d) ≤ 3 * length t
 
 -- the names of all structs rise, as those of a run do

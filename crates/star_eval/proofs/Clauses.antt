@@ -10,6 +10,7 @@ use Rattle.star_tree.specs.declared.tree.Expression.{Expression}
 use Rattle.star_tree.specs.declared.tree.Target.{Target}
 use Rattle.star_meaning.specs.declared.site.Site.{Site}
 use Rattle.star_meaning.specs.declared.fault.Fault.{Fault}
+use Rattle.star_meaning.specs.declared.said.Said.{Said}
 use Rattle.star_meaning.specs.Comprehensions.{clause_node, clause_turn, over}
 use Rattle.star_meaning.specs.Program.{Setting}
 use Rattle.star_machine.specs.declared.fault.EvalError.{EvalError}
@@ -71,7 +72,7 @@ turn_opened c levels p o fs f g s t h e =
     ∙ sym (ap (λ (r : Outcome (Unit {0})). and_then r (λ _. all_left c levels p o fs)) (turn_led c levels p o f (Some g) s t h e))
 
 -- a turn that failed
-pub turn_failed : (c : World) (levels : ℕ) (p : Site) (o : Output) (fs : List OpenClause) (f : OpenClause) (s : State) (e : Fault) (lines : List (List ℕ)) → f.next < f.count → turn_of c levels p o f f.next s ≡ Failed e lines
+pub turn_failed : (c : World) (levels : ℕ) (p : Site) (o : Output) (fs : List OpenClause) (f : OpenClause) (s : State) (e : Fault) (lines : List Said) → f.next < f.count → turn_of c levels p o f f.next s ≡ Failed e lines
     → and_then (remaining_turns c levels p o f s) (λ _. all_left c levels p o fs) ≡ Failed e lines
 turn_failed c levels p o fs f s e lines h k =
     ap (λ (r : Outcome (Unit {0})). and_then r (λ _. all_left c levels p o fs)) (first_turn c levels p o f s h ∙ ap (λ (r : Outcome (Unit {0})). and_then r (λ _. remaining_turns c levels p o (taken f))) k)

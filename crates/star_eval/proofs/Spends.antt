@@ -10,6 +10,7 @@ use Rattle.star_tree.specs.declared.tree.Name.{Name}
 use Rattle.star_meaning.specs.declared.fault.FaultCode.TheVariants as code
 use Rattle.star_meaning.specs.declared.fault.Fault.{Fault}
 use Rattle.star_meaning.specs.declared.site.Site.{Site}
+use Rattle.star_meaning.specs.declared.said.Said.{Said}
 use Rattle.star_meaning.specs.Laws.{Grows, Grown}
 use Rattle.star_meaning.specs.Places.{Tables, at_spot, bind_spot, by_places, frame_above, joined, new_slots, own_spot, read_spot, slot_in}
 use Rattle.star_meaning.specs.Program.{Setting, seen}
@@ -95,7 +96,7 @@ pub leave_spends : (v : Value) (s t : State) → leave v s ≡ Done tt t → t.s
 leave_spends v s t h = spent (leave v) s t tt (grows_leave v) h
 
 -- an item is paid for
-not_done : {A : Type 0} (f : Fault) (lines : List (List ℕ)) (x : A) (t : State) → Failed f lines ≡ Done x t → ⊥
+not_done : {A : Type 0} (f : Fault) (lines : List Said) (x : A) (t : State) → Failed f lines ≡ Done x t → ⊥
 not_done f lines x t e = cc
 
 pays : {A : Type 0} (b : Bool) (line : ℕ) (m : Action A) (s t : State) (x : A) → nat_lt s.steps 1 ≡ b → growth.Keeps m → and_then (if b then fail {A = Unit {0}} code.Steps line s else Done tt (record s { steps = s.steps - 1 })) (λ _. m) ≡ Done x t → t.steps < s.steps

@@ -555,7 +555,7 @@ fn call_built_in_on(
 ) -> Result<Value, EvalError>
     // It is long since it names each argument of the definition.
     ensures { Refines (calls.called_built_in world.now.setting levels (semantics world.now levels) site.now function
-        given.now (calls.takes_key world.now.setting.dialect given.now) machine.old) result machine.new }
+        given.now (calls.takes_key world.now.setting.language.dialect given.now) machine.old) result machine.new }
 {
     if takes_key(world, given) {
         return call_by_key(machine, world, levels, site, function, given);

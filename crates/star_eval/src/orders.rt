@@ -31,7 +31,7 @@ use std::alloc::{AllocError, Global};
 
 /// Whether a call of a built-in function may have a function of `key`: in the extended language, if the name is given.
 pub(crate) fn takes_key(world: &World, given: &Arguments) -> bool
-    ensures { result ≡ calls.takes_key world.now.setting.dialect given.now }
+    ensures { result ≡ calls.takes_key world.now.setting.language.dialect given.now }
 {
     match world.setting().dialect() {
         Dialect::Core => false,

@@ -9,7 +9,7 @@ use star_meaning::fault::FaultCode;
 use star_mistakes::message::{Part, message, push_message};
 use std::alloc::AllocError;
 
-/// What `json.encode` and `json.encode_indent` take, after the name of the function.
+/// What `json.encode` and `json.encode_indent` take, after the name of the function. A recorded call takes the first.
 const NO_JSON: &str =
     "` takes None, bools, ints, strings, lists, tuples, structs, and dicts whose keys are strings";
 
@@ -222,9 +222,19 @@ impl<'a> Saying<'a> {
         ])
     }
 
+    /// A call of a function whose calls are recorded, with a value that has no JSON.
+    fn recorded(self, call: BuiltInCall) -> Result<Option<String>, AllocError> {
+        let value = if call.given == 1 { call.first } else { None };
+        match self.code {
+            FaultCode::BadType => self.of_built_in(call.name, NO_JSON, value),
+            _ => Ok(None),
+        }
+    }
+
     /// A call of a built-in function, or of a method.
     pub(crate) fn built_in(self, call: BuiltInCall) -> Result<Option<String>, AllocError> {
         match (self.code, call.receiver, call.first) {
+            (_, Some(receiver), _) if receiver.of == Type::BuiltIn => self.recorded(call),
             (FaultCode::Args, _, _) => self.built_in_count(call),
             (FaultCode::BadType, _, _) => self.built_in_type(call),
             (FaultCode::BadValue, _, _) => self.built_in_value(call),

@@ -31,6 +31,9 @@ fn is_further(function: &str, name: &str) -> bool {
 /// The help for an item of a dictionary that is no pair.
 const ITEMS: &str = "a loop over a dict takes its keys: write `for k, v in d.items()`";
 
+/// The help for a write to a set of another file.
+const OWN_SET: &str = "make a set of your own: `mine = set(names)`";
+
 impl<'a> Saying<'a> {
     /// The name that was probably meant by a word, among the names that were found.
     fn near(self, word: &str) -> Result<Option<String>, AllocError> {
@@ -156,6 +159,14 @@ impl<'a> Saying<'a> {
             },
             About::Loaded(name) => self.near(name.as_str()),
             About::Attribute { name, value, .. } => self.attribute(name.as_str(), value.of),
+            About::BuiltIn {
+                receiver: Some(written),
+                ..
+            }
+            | About::Operands { left: written, .. }
+                if self.code == FaultCode::Frozen && written.of == Type::Set => {
+                self.known(Some(OWN_SET))
+            }
             About::BuiltIn { name, given, .. } if self.code == FaultCode::Args => {
                 self.known(of_arguments(self.dialect, name.as_str(), *given))
             }

@@ -9,6 +9,7 @@ use star_dialect::Dialect;
 use star_found::about::Found;
 use star_label::files::Files;
 use star_meaning::fault::FaultCode;
+use star_meaning::said;
 use star_meaning::story::Step;
 use star_mistakes::place::{Mark, whole};
 use star_outcome::module::{Ended, Left, Module};
@@ -162,7 +163,7 @@ fn stop_of(
     let steps = steps_there(reads, trail.as_slice());
     stop.trail = Some(Trail::of(alloc, module.number, *line, steps)?);
     if *code == FaultCode::Fail {
-        if let Some(line) = lines.last() {
+        if let Some(said::Said::Line(line)) = lines.last() {
             stop.said = Some(whole(alloc, line.as_str())?);
         }
     }

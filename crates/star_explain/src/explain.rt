@@ -383,7 +383,13 @@ pub fn explain(
     roots: &[usize],
     form: Form,
 ) -> Result<String, AllocError> {
-    let ends = Ends::of(sources.alloc, sources.files, sources.dialect, reads, run)?;
+    let ends = Ends::of(
+        sources.alloc,
+        sources.files,
+        sources.language.dialect,
+        reads,
+        run,
+    )?;
     told(sources, ends, roots, form)
 }
 

@@ -7,7 +7,7 @@ use Rattle.std.specs.Option.{option_map}
 use Rattle.std.specs.declared.alloc.AllocError.{AllocError}
 use Rattle.std.proofs.lemmas.List.{length-map}
 use Rattle.std.proofs.lemmas.Option.{slice_get_within}
-use Rattle.star_dialect.specs.declared.Dialect.{Dialect}
+use Rattle.star_dialect.specs.declared.Language.{Language}
 use Rattle.star_dialect.specs.declared.Mode.{Mode}
 use Rattle.star_label.specs.Files.{File}
 use Rattle.star_scope.specs.declared.loads.Load.{Load}
@@ -58,11 +58,11 @@ pub body_may_run : (files : List File) (plan : Plan) (table : Files) (row : Row)
 body_may_run files plan table row n p shelf ms planned placed is e loads tight holds =
     files_may_run files plan table planned placed n p.statements.now shelf (ap tree_in (read_is plan row n is ∙ ap (option_map reading_of) e)) (loads_good plan n ms loads) tight holds
 
-same_setting : (plan : Plan) (table : Files) (n home : ℕ) (shelf : Shelf) (ls : List Load) (prelude : Option ℕ) (dialect : Dialect) → home ≡ n → ls ≡ loads_of plan n → prelude ≡ plan.prelude → dialect ≡ plan.mode.dialect → (world_of home shelf table ls prelude dialect).setting ≡ given_over table plan n shelf
-same_setting plan table n home shelf ls prelude dialect e f g d =
-    ap (λ h. (world_of h shelf table ls prelude dialect).setting) e
-    ∙ ap (λ xs. (world_of n shelf table xs prelude dialect).setting) f
-    ∙ ap (λ o. (world_of n shelf table (loads_of plan n) o dialect).setting) g
+same_setting : (plan : Plan) (table : Files) (n home : ℕ) (shelf : Shelf) (ls : List Load) (prelude : Option ℕ) (language : Language) → home ≡ n → ls ≡ loads_of plan n → prelude ≡ plan.prelude → language ≡ plan.mode.language → (world_of home shelf table ls prelude language).setting ≡ given_over table plan n shelf
+same_setting plan table n home shelf ls prelude language e f g d =
+    ap (λ h. (world_of h shelf table ls prelude language).setting) e
+    ∙ ap (λ xs. (world_of n shelf table xs prelude language).setting) f
+    ∙ ap (λ o. (world_of n shelf table (loads_of plan n) o language).setting) g
     ∙ ap (λ l. (world_of n shelf table (loads_of plan n) plan.prelude l).setting) d
 
 own_in : (plan : Plan) (table : Files) (n : ℕ) (ss : List Statement) (shelf : Shelf) (o : Outcome) → MayRun plan table n ss shelf → semantics (given_over table plan n shelf) o ≡ local (given_over table plan n shelf) plan.mode.steps ss → IsOwnIn plan n o
@@ -71,8 +71,8 @@ own_in plan table n ss shelf (outcome.Fault code line lines remains) may e = tt
 
 same_given : (plan : Plan) (table : Files) (n : ℕ) (ms : List Local) (shelf : Shelf) → trees_of table ≡ trees plan → shelf ≡ (given plan n ms).shelf → given_over table plan n shelf ≡ given plan n ms
 same_given plan table n ms shelf trees_are shelf_is =
-    ap (λ (t : Trees). let w : Setting = record { home = n; outlines = outlines t; shelf = shelf; loads = load_files (loads_of plan n); prelude = plan.prelude; dialect = plan.mode.dialect } in w) trees_are
-    ∙ ap (λ (s : Shelf). let w : Setting = record { home = n; outlines = outlines (trees plan); shelf = s; loads = load_files (loads_of plan n); prelude = plan.prelude; dialect = plan.mode.dialect } in w) shelf_is
+    ap (λ (t : Trees). let w : Setting = record { home = n; outlines = outlines t; shelf = shelf; loads = load_files (loads_of plan n); prelude = plan.prelude; language = plan.mode.language } in w) trees_are
+    ∙ ap (λ (s : Shelf). let w : Setting = record { home = n; outlines = outlines (trees plan); shelf = s; loads = load_files (loads_of plan n); prelude = plan.prelude; language = plan.mode.language } in w) shelf_is
 
 paid_by : (plan : Plan) (n : ℕ) (ss : List Statement) (ms : List Local) (r : run.Outcome Ended) (o : Outcome) → tree_in (read_of plan n) ≡ Some ss → AreGood plan (loaded plan n) ms → plan_run plan n ss ms ≡ r → IsRun r o → IsPaidIn plan n o
 paid_by plan n ss ms (run.Done e s) (outcome.Good frozen texts lines left) sound good ran so =
@@ -113,19 +113,19 @@ ran_is plan table n ss shelf w mode o may pays same count e named =
 -- the outcome of the run of a body is the file's outcome
 pub ran_so : (plan : Plan) (table : Files) (n home : ℕ) (ss : List Statement) (shelf : Shelf) (ls : List Load) (prelude : Option ℕ) (mode : Mode) (r : Result Outcome AllocError) → MayRun plan table n ss shelf → Pays plan table n ss shelf
     → home ≡ n → ls ≡ loads_of plan n → prelude ≡ plan.prelude → mode ≡ plan.mode
-    → (AreReady (world_of home shelf table ls prelude mode.dialect) mode.steps → IfOk r (λ o. semantics (world_of home shelf table ls prelude mode.dialect).setting o ≡ local (world_of home shelf table ls prelude mode.dialect).setting mode.steps ss))
-    → (AreReady (world_of home shelf table ls prelude mode.dialect) mode.steps → IfOk r (λ o. IsRun (run_by_names (world_of home shelf table ls prelude mode.dialect).setting mode.steps ss) o)) → IfOk r (IsRan plan n)
+    → (AreReady (world_of home shelf table ls prelude mode.language) mode.steps → IfOk r (λ o. semantics (world_of home shelf table ls prelude mode.language).setting o ≡ local (world_of home shelf table ls prelude mode.language).setting mode.steps ss))
+    → (AreReady (world_of home shelf table ls prelude mode.language) mode.steps → IfOk r (λ o. IsRun (run_by_names (world_of home shelf table ls prelude mode.language).setting mode.steps ss) o)) → IfOk r (IsRan plan n)
 ran_so plan table n home ss shelf ls prelude mode r may pays at loads is count names named = by_result r (names ready) (named ready)
   where
     w : Setting
-    w = (world_of home shelf table ls prelude mode.dialect).setting
+    w = (world_of home shelf table ls prelude mode.language).setting
 
     same : w ≡ given_over table plan n shelf
-    same = same_setting plan table n home shelf ls prelude mode.dialect at loads is (ap (λ (m : Mode). m.dialect) count)
+    same = same_setting plan table n home shelf ls prelude mode.language at loads is (ap (λ (m : Mode). m.language) count)
 
-    ready : AreReady (world_of home shelf table ls prelude mode.dialect) mode.steps
+    ready : AreReady (world_of home shelf table ls prelude mode.language) mode.steps
     ready = record {
-      programs = subst (λ (m : Mode). ArePrograms table prelude m.dialect) (sym count) (subst (λ o. ArePrograms table o plan.mode.dialect) (sym is) may.programs);
+      programs = subst (λ (m : Mode). ArePrograms table prelude m.language) (sym count) (subst (λ o. ArePrograms table o plan.mode.language) (sym is) may.programs);
       functions = subst (λ (m : Mode). AllFit (trees_of table) w (start w m.steps)) (sym count) (subst (λ (v : Setting). AllFit (trees_of table) v (start v plan.mode.steps)) (sym same) may.functions);
     }
 

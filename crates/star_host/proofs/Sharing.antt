@@ -13,6 +13,7 @@ use denote.Param.SendFields.{FieldsHave, as_row_send, declared_send, variants_sy
 use Rattle.std.proofs.Crossing.{crosses}
 use Rattle.std.proofs.MapsCrossing as maps
 use Rattle.std.specs.declared.sync.ledger.Ledger
+use Rattle.star_dialect.proofs.Mode.TheSendSync as of_mode
 use Rattle.star_cache.specs.contracts.cache.LoadCache as cache
 use Rattle.star_cache.proofs.cache.LoadCache.TheSendSync as of_cache
 use Rattle.star_world.specs.contracts.files.Files as files
@@ -55,6 +56,7 @@ common_sync κ ν μ ξ =
     let r = read_sync ξ in
     let f = files_sync ν ξ in
     let l = of_labels.the_sync in
+    let m = of_mode.the_sync in
     let e = of_end.the_sync in
     let s = of_shelf.the_sync _ of_module.the_send of_module.the_sync in
     search (sendable, crosses) depth 40

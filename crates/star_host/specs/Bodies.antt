@@ -1,6 +1,6 @@
 -- The outcome of the run of a body, and its meaning in its world.
 use Rattle.std.specs.Prelude.{◌≡◌, ◌-◌, ℕ, IfOk, List, Option, Result}
-use Rattle.star_dialect.specs.declared.Dialect.{Dialect}
+use Rattle.star_dialect.specs.declared.Language.{Language}
 use Rattle.star_scope.specs.declared.loads.Load.{Load}
 use Rattle.star_tree.specs.declared.tree.Statement.{Statement}
 use Rattle.star_meaning.specs.Module.{local}
@@ -18,8 +18,8 @@ use Rattle.star_plan.specs.Results.{IsOutcome, Ran}
 use Rattle.star_plan.specs.Shelves.{IsOwn}
 
 -- the world of a file whose body runs over the stores of a row
-abbrev pub world_in : ℕ → StoreRowView → Files → List Load → Option ℕ → Dialect → World
-world_in home reaches programs loads prelude dialect = world_of home (shelf_of reaches) programs loads prelude dialect
+abbrev pub world_in : ℕ → StoreRowView → Files → List Load → Option ℕ → Language → World
+world_in home reaches programs loads prelude language = world_of home (shelf_of reaches) programs loads prelude language
 
 -- if the world is ready, this is the meaning of a file with these statements
 abbrev pub MeansLocal : {E : Type 0} → World → ℕ → List Statement → Result Outcome E → Type 0

@@ -30,8 +30,8 @@ pub record IsContext (files : List File) (plan : Plan) (shelf : List ℕ) (c : L
   pub cells_fit : length shelf ≡ length files
   pub prelude_is : c.prelude ≡ plan.prelude
   pub prelude_fits : IfSome c.prelude (λ p. p < length files)
-  pub mode_is : c.mode ≡ plan.mode
-  pub steps_fit : (1 ≤ c.mode.steps) × (c.mode.steps ≤ 100000000)
+  pub mode_is : c.mode.now ≡ plan.mode
+  pub steps_fit : (1 ≤ c.mode.now.steps) × (c.mode.now.steps ≤ 100000000)
   pub planned : IsPlanOf files plan
   pub placed : ArePlaced files plan c.programs.now
   pub ends_are : AreGoodEnds plan c.ends.now
@@ -44,7 +44,7 @@ MayWork files plan shelf c =
 
 -- the plan of loaders that share this data
 abbrev pub plan_in : LoadContext → Plan
-plan_in c = record { roots = c.roots.now; prelude = c.prelude; mode = c.mode; reads = readings c.reads.now }
+plan_in c = record { roots = c.roots.now; prelude = c.prelude; mode = c.mode.now; reads = readings c.reads.now }
 
 -- this end of the file n is known
 abbrev pub HasEnd : LoadContext → ℕ → GoodEnd → Type 0

@@ -34,7 +34,7 @@ pub struct LoadContext<'s, 'r, 'p, 't> {
     pub roots: &'s [usize],
     pub prelude: Option<usize>,
     pub loaders: usize,
-    pub mode: Mode,
+    pub mode: &'s Mode,
     pub seed: u64,
     /// The ballast of each loader, if memory counts more than time.
     pub ballast: Option<Size>,
@@ -60,12 +60,12 @@ impl<'s, 'r, 'p, 't> LoadContext<'s, 'r, 'p, 't> {
         ends: &'s [Option<GoodEnd>],
         options: RunOptions<'s>,
     ) -> LoadContext<'s, 'r, 'p, 't>
-        requires read { IsReadOf files.now options.roots.now options.prelude options.mode.dialect reads.now.all.items }
+        requires read { IsReadOf files.now options.roots.now options.prelude options.mode.now.language reads.now.all.items }
         requires programs { programs.now ≡ table_of reads.now.all.items }
         requires cells { length modules.now ≡ length files.now }
         requires prelude { IfSome options.prelude (λ p. p < length files.now) }
-        requires steps { (1 ≤ options.mode.steps) × (options.mode.steps ≤ 100000000) }
-        requires ends { AreGoodEndsOf files.now options.roots.now options.prelude options.mode ends.now }
+        requires steps { (1 ≤ options.mode.now.steps) × (options.mode.now.steps ≤ 100000000) }
+        requires ends { AreGoodEndsOf files.now options.roots.now options.prelude options.mode.now ends.now }
         ensures world { IsContext result.files.now (plan_in result) result.modules.now result }
         ensures within { IsWithin result.files.now (plan_in result) }
         ensures asked { All (IsAsked result.files.now (plan_in result)) options.entry.roots.now }
@@ -74,7 +74,7 @@ impl<'s, 'r, 'p, 't> LoadContext<'s, 'r, 'p, 't> {
         ensures roots { result.roots.now ≡ options.entry.roots.now }
         ensures prelude { result.prelude ≡ options.entry.prelude }
         ensures loaders { result.loaders ≡ options.entry.loaders }
-        ensures mode { result.mode ≡ options.entry.mode }
+        ensures mode { result.mode.now ≡ options.entry.mode.now }
     {
         LoadContext {
             alloc,

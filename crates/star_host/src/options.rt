@@ -16,7 +16,7 @@ pub struct RunOptions<'a> {
     /// How many loaders there are, from 1 to 64.
     pub loaders: usize,
     /// The mode in which each body runs: its steps are 1 to 100,000,000.
-    pub mode: Mode,
+    pub mode: &'a Mode,
     /// The seed for the hashes of keys. No answer depends on it: if it differs from run to run, nobody who writes a
     /// file can choose keys that all collide.
     pub seed: u64,

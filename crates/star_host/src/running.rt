@@ -415,15 +415,15 @@ pub fn run<R: Threads + Wait + Sync, G: Gate + Sync>(
     requires roots { Within files.now options.roots.now }
     requires prelude { IfSome options.prelude (λ n. n < length files.now) }
     requires loaders { (1 ≤ options.loaders) × (options.loaders ≤ 64) }
-    requires steps { (1 ≤ options.mode.steps) × (options.mode.steps ≤ 100000000) }
+    requires steps { (1 ≤ options.mode.now.steps) × (options.mode.now.steps ≤ 100000000) }
     ensures begun { IfOk result (λ r. r.begun ≡ length r.kept) }
     ensures sum { IfOk result (λ r. sum r.per_loader ≡ r.begun) }
     ensures counts { IfOk result (λ r. AreCounts options.entry.loaders r.begun r.per_loader) }
     ensures files { IfOk result (λ r. length r.cells ≡ length files.now) }
     ensures modules { let o = options.entry in
-        IfOk result (λ r. AreModulesOf files.now o.roots.now o.prelude o.mode r.kept) }
+        IfOk result (λ r. AreModulesOf files.now o.roots.now o.prelude o.mode.now r.kept) }
     ensures refused { let o = options.entry in
-        IfOk result (λ r. AreRefusalsOf files.now o.roots.now o.prelude o.mode r.refused) }
+        IfOk result (λ r. AreRefusalsOf files.now o.roots.now o.prelude o.mode.now r.refused) }
 {
     let trees = Trees::new(alloc)?;
     let parses = Vec::new(alloc);
@@ -463,25 +463,25 @@ pub fn run_in<'t, R: Threads + Wait + Sync, G: Gate + Sync>(
     gate: &G,
 ) -> Result<Run, RunError>
     requires parses { AreParsesOf files.now known.parses.now }
-    requires reads { AreKnown files.now options.prelude options.mode.dialect reads.old.all.items }
-    requires ends { let o = options in AreGoodEndsOf files.now o.roots.now o.prelude o.mode known.ends.now }
+    requires reads { AreKnown files.now options.prelude options.mode.now.language reads.old.all.items }
+    requires ends { let o = options in AreGoodEndsOf files.now o.roots.now o.prelude o.mode.now known.ends.now }
     requires roots { Within files.now options.roots.now }
     requires prelude { IfSome options.prelude (λ n. n < length files.now) }
     requires loaders { (1 ≤ options.loaders) × (options.loaders ≤ 64) }
-    requires steps { (1 ≤ options.mode.steps) × (options.mode.steps ≤ 100000000) }
+    requires steps { (1 ≤ options.mode.now.steps) × (options.mode.now.steps ≤ 100000000) }
     ensures read { IfOk result (λ _.
-        let o = options.entry in IsReadOf files.now o.roots.now o.prelude o.mode.dialect
+        let o = options.entry in IsReadOf files.now o.roots.now o.prelude o.mode.now.language
         reads.new.all.items) }
     ensures others { let o = options.entry in
-        IfOk result (λ _. AreKnown files.now o.prelude o.mode.dialect reads.new.others.items) }
+        IfOk result (λ _. AreKnown files.now o.prelude o.mode.now.language reads.new.others.items) }
     ensures files { IfOk result (λ r. length r.cells ≡ length files.now) }
     ensures modules { let o = options.entry in
-        IfOk result (λ r. AreModulesOf files.now o.roots.now o.prelude o.mode r.kept) }
+        IfOk result (λ r. AreModulesOf files.now o.roots.now o.prelude o.mode.now r.kept) }
     ensures begun { IfOk result (λ r. r.begun ≡ length r.kept) }
     ensures sum { IfOk result (λ r. sum r.per_loader ≡ r.begun) }
     ensures counts { IfOk result (λ r. AreCounts options.entry.loaders r.begun r.per_loader) }
     ensures refused { let o = options.entry in
-        IfOk result (λ r. AreRefusalsOf files.now o.roots.now o.prelude o.mode r.refused) }
+        IfOk result (λ r. AreRefusalsOf files.now o.roots.now o.prelude o.mode.now r.refused) }
 {
     let modules = Shelf::new(alloc, files.len())?;
     let RunOptions {
@@ -495,7 +495,7 @@ pub fn run_in<'t, R: Threads + Wait + Sync, G: Gate + Sync>(
         files,
         trees: known.trees,
         parses: known.parses,
-        dialect: options.mode.dialect,
+        language: &options.mode.language,
     };
     let before = mem::replace(reads, Reads::new(alloc));
     *reads = read_parsed(rt, alloc, texts, before, roots, prelude, readers)?;

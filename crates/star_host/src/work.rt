@@ -16,7 +16,7 @@ ghost use Rattle.star_reading.specs.declared.reading.Read.TheVariants as read;
 use crate::common::{LoadContext, file_number};
 use crate::gate::Gate;
 use star_about::look::{Fault, seek};
-use star_dialect::{Dialect, Mode};
+use star_dialect::Language;
 use star_found::about::Found;
 use star_module::{Outcome, Remains, run_body};
 use star_outcome::module::{Body, Ended, Left, Module};
@@ -41,23 +41,24 @@ fn outcome_in<'s, 'r, 'p, 't>(
     prelude: Option<u32>,
 ) -> Result<Outcome, AllocError>
     requires stands { file_in common.now.programs.now home ≡ Some (placed_file program.now) }
-    requires steps { (1 ≤ common.now.mode.steps) × (common.now.mode.steps ≤ 100000000) }
+    requires steps { (1 ≤ common.now.mode.now.steps) × (common.now.mode.now.steps ≤ 100000000) }
     ensures names { let c = common.now in MeansLocal
-        (world_in home reaches.now c.programs.now program.now.loads.items prelude c.mode.dialect)
-        c.mode.steps program.now.statements.now result }
+        (world_in home reaches.now c.programs.now program.now.loads.items prelude c.mode.now.language)
+        c.mode.now.steps program.now.statements.now result }
     ensures named { let c = common.now in IsRunOf
-        (world_in home reaches.now c.programs.now program.now.loads.items prelude c.mode.dialect)
-        c.mode.steps program.now.statements.now result }
+        (world_in home reaches.now c.programs.now program.now.loads.items prelude c.mode.now.language)
+        c.mode.now.steps program.now.statements.now result }
 {
     let homes = reaches.homes(common.alloc)?;
-    let Mode { steps, dialect } = common.mode;
+    let steps = common.mode.steps;
+    let language = &common.mode.language;
     let world = World::new(
         home,
         &homes,
         common.programs,
         program.loads(),
         prelude,
-        dialect,
+        language,
     );
     run_body(common.alloc, &world, program, steps, common.seed)
 }
@@ -88,7 +89,7 @@ fn found_of(
     files: &Files,
     loads: &[Load],
     prelude: Option<u32>,
-    dialect: Dialect,
+    language: &Language,
 ) -> Option<Found> {
     let Outcome::Fault {
         code,
@@ -103,7 +104,7 @@ fn found_of(
         code: *code,
         line: *line,
         home,
-        dialect,
+        language,
         trail: remains.trail.as_slice(),
     };
     match found_in(alloc, fault, &remains.store, reaches, files, loads, prelude) {
@@ -192,7 +193,7 @@ fn run<'s, 'r, 'p, 't, J: RunId, G: Gate>(
         common.programs,
         program.loads(),
         prelude,
-        common.mode.dialect,
+        &common.mode.language,
     );
     ended_of::<J>(
         common.alloc,

@@ -9,7 +9,7 @@ use Rattle.star_plan.specs.Plan.{Plan}
 use Rattle.star_plan.specs.Reached.{root}
 use Rattle.star_plan.specs.Reading.{IsPlanOf}
 use Rattle.star_plan.specs.Report.{Module}
-use Rattle.star_report.specs.Wanted.{AreMore, Full, IsFullText, full_text, is_ok, is_shown}
+use Rattle.star_report.specs.Wanted.{AreMore, Full, IsFullText, is_ok, is_shown, whole_text}
 use Rattle.star_report.specs.declared.wanted.Wanted.{Wanted}
 use Rattle.star_report.proofs.OneText.{one_more}
 use Rattle.star_join.specs.Join.{Agree, InOrder, IsJoin, join}
@@ -154,7 +154,7 @@ module _ (wanted : Wanted) (files : List File) (p q r : Plan) (ordered : IsOrder
         let all = counts full_file x.fulls y.fulls (to_up full_file x.fulls order_left) (to_up full_file y.fulls order_right) in
         omega (arith, own, mine, yours, all));
     shown = told_join;
-    text_is = z.text_is ∙ (ap (λ n. full_text wanted files r n z.fulls) begun_is ∙ ap (full_text wanted files r (length (join full_file x.fulls y.fulls))) joined);
+    text_is = z.text_is ∙ (ap (λ n. whole_text wanted.calls wanted files r n z.fulls) begun_is ∙ ap (whole_text wanted.calls wanted files r (length (join full_file x.fulls y.fulls))) joined);
   }
 
 pub texts_join : TextsJoin

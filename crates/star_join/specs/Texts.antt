@@ -4,7 +4,7 @@ use Rattle.std.specs.List.{filter}
 use Rattle.star_label.specs.Files.{File, IsOrdered}
 use Rattle.star_plan.specs.Plan.{Plan}
 use Rattle.star_plan.specs.Reading.{IsPlanOf}
-use Rattle.star_report.specs.Wanted.{Full, IsFullText, full_text, is_shown}
+use Rattle.star_report.specs.Wanted.{Full, IsFullText, is_shown, whole_text}
 use Rattle.star_report.specs.declared.wanted.Wanted.{Wanted}
 use Rattle.star_join.specs.Join.{Agree, join, shared}
 use Rattle.star_join.specs.Laws.{HasRootsOf}
@@ -26,7 +26,7 @@ pub record AreJoined (wanted : Wanted) (files : List File) (p q r : Plan) (b c d
     pub begun_is : d ≡ length (join full_file xs ys)
     pub begun : d + shared full_file xs ys ≡ b + c
     pub shown : told wanted r zs ≡ join full_file (told wanted p xs) (told wanted q ys)
-    pub text_is : text ≡ full_text wanted files r (length (join full_file xs ys)) (join full_file xs ys)
+    pub text_is : text ≡ whole_text wanted.calls wanted files r (length (join full_file xs ys)) (join full_file xs ys)
 
 abbrev pub TextsJoin : Type 0
 TextsJoin =

@@ -21,4 +21,4 @@ ExtendedHasThem = (type name : List ℕ) (m : Method)
 -- The law: in the core a method that takes more in the extended language does what it does in the core.
 abbrev pub CoreCallsItsOwn : Type 0
 CoreCallsItsOwn = (w : Setting) (line : ℕ) (name text : List ℕ) (g : Arguments) (core : Action Value)
-    → w.dialect ≡ dialect.Core → call_wider w line name text g core ≡ core
+    → w.language.dialect ≡ dialect.Core → call_wider w line name text g core ≡ core

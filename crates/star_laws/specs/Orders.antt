@@ -18,4 +18,4 @@ SortingKeepsTheItems = (w : Setting) (levels line : ℕ) (backwards : Bool) (ps 
 -- The law: in the core a call with `key` is a plain call.
 abbrev pub CoreHasNoKeys : Type 0
 CoreHasNoKeys = (w : Setting) (levels : ℕ) (m : Semantics) (p : Site) (c : Callee) (g : Arguments)
-    → w.dialect ≡ dialect.Core → called w levels m p c g ≡ called_plainly w levels m p c g
+    → w.language.dialect ≡ dialect.Core → called w levels m p c g ≡ called_plainly w levels m p c g

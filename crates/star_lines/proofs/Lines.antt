@@ -23,7 +23,7 @@ use Rattle.star_plan.specs.Report.{Ended, HadFault, HadLoad, HadStatic, Module, 
 use Rattle.star_plan.specs.Results.{Outcome, Ran, Static, Unloaded}
 use Rattle.star_plan.specs.Text.{ended_data, module_data}
 use Rattle.star_report.specs.Values.{value_members}
-use Rattle.star_report.specs.Wanted.{AreMore, AreWanted, Full, HasLoads, HasSteps, HasStepsAs, HasValues, IsFullText, added, followed, full_data, full_text, is_ok, is_shown, loads_member}
+use Rattle.star_report.specs.Wanted.{AreMore, AreWanted, Full, HasLoads, HasSteps, HasStepsAs, HasValues, IsFullText, added, followed, full_data, full_text, is_ok, is_shown, loads_member, whole_text}
 use Rattle.star_report.specs.declared.wanted.Wanted.{Wanted}
 use Rattle.star_shards.specs.Data.{IsEntryOf, IsPlain, found_member}
 use Rattle.star_shards.specs.Entries.{IsEntry, is_good, is_good_word, label_of}
@@ -191,12 +191,13 @@ line_is files begun fulls =
 pub reports_are_lines : ReportsAreLines
 unfolding full_text
 reports_are_lines wanted files plan text whole labels x =
-    let shown = all_shown wanted plan x.fulls whole in
+    let shown = all_shown wanted plan x.fulls whole.0 in
+    let plainly = ap (λ b. whole_text b wanted files plan x.begun x.fulls) whole.1 in
     let line = compact_text (data_of files x.begun x.fulls) in
     let run : x.begun ≡ length (map (entry_text files) x.fulls) = x.report.begun_are ∙ length-map x.fulls (λ f. f.shown) ∙ sym (length-map x.fulls (entry_text files)) in
     record {
       line = line;
-      text_is = x.text_is ∙ ap (λ gs. compact_text (data_of files x.begun gs) ++ 10 ∷ []) shown;
+      text_is = x.text_is ∙ plainly ∙ ap (λ gs. compact_text (data_of files x.begun gs) ++ 10 ∷ []) shown;
       report = record { line_is = line_is files x.begun x.fulls; each = entries_are wanted files plan labels x.fulls x.more; whole = inl run };
       run = run;
       labels = labels_are wanted files plan labels x.fulls x.more;

@@ -1,5 +1,5 @@
 -- The texts of reports, one after another, are lines, and each line is one report.
-use Rattle.std.proofs.Common.{◌≡◌, ◌<◌, ◌^◌, ℕ, false, List, [], ◌∷◌, ◌++◌, map, length, refl, ap, sym, ◌∙◌, subst, arith}
+use Rattle.std.proofs.Common.{◌≡◌, ◌<◌, ◌^◌, ℕ, List, [], ◌∷◌, ◌++◌, map, length, refl, ap, sym, ◌∙◌, subst, arith}
 use Rattle.std.specs.Prelude.{Contains}
 use Rattle.std.specs.List.{All, concat}
 use Rattle.std.proofs.lemmas.List.{append_assoc, length-append}
@@ -13,7 +13,7 @@ use Rattle.star_shards.specs.Joined.{IsJoinedText}
 use Rattle.star_shards.specs.Lines.{AreReports, IsOneLine, IsReport, Report, ended, lines, report_text}
 use Rattle.star_shards.proofs.LineEnds.{data_are_one_line, lines_are_cut, one_report, reports_are_one_line}
 use Rattle.star_lines.specs.Joins.{AreOf, AreParts, AreTexts, HasRoot, IsOf, JoinsAreReports}
-use Rattle.star_lines.specs.Lines.{HavePlainLabels, entry_text}
+use Rattle.star_lines.specs.Lines.{HavePlainLabels, IsWhole, entry_text}
 use Rattle.star_lines.proofs.Joins.{reports_join}
 use Rattle.star_lines.proofs.Lines.{reports_are_lines}
 
@@ -30,7 +30,7 @@ record Line (wanted : Wanted) (files : List File) (p : Plan) (t : List ℕ) : Ty
   is : IsReport line report
   of : IsOf wanted files p report
 
-line_of : (wanted : Wanted) (files : List File) (p : Plan) (t : List ℕ) → wanted.only_roots ≡ false → HavePlainLabels files → IsFullText wanted files p t → Line wanted files p t
+line_of : (wanted : Wanted) (files : List File) (p : Plan) (t : List ℕ) → IsWhole wanted → HavePlainLabels files → IsFullText wanted files p t → Line wanted files p t
 line_of wanted files p t shown labels x =
     let l = reports_are_lines wanted files p t shown labels x in
     let r : Report = record { begun = x.begun; entries = map (entry_text files) x.fulls } in
@@ -52,7 +52,7 @@ record Rows (wanted : Wanted) (files : List File) (ps : List Plan) (ts : List (L
   are : AreReports texts reports
   of : AreOf wanted files ps reports
 
-rows_of : (wanted : Wanted) (files : List File) (ps : List Plan) (ts : List (List ℕ)) → wanted.only_roots ≡ false → HavePlainLabels files → AreTexts wanted files ps ts → Rows wanted files ps ts
+rows_of : (wanted : Wanted) (files : List File) (ps : List Plan) (ts : List (List ℕ)) → IsWhole wanted → HavePlainLabels files → AreTexts wanted files ps ts → Rows wanted files ps ts
 unfolding AreTexts AreOf AreReports ended
 rows_of wanted files [] [] shown labels h =
     record { texts = []; joined = refl; ones = All-nil IsOneLine; reports = []; are = tt; of = tt }

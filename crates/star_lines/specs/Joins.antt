@@ -1,5 +1,5 @@
 -- Joins of the reports of one set of files.
-use Rattle.std.specs.Prelude.{◌≡◌, ◌<◌, ◌^◌, ◌⊎◌, ⊤, ℕ, false, List, [], ◌∷◌, ◌++◌, Contains, length, map}
+use Rattle.std.specs.Prelude.{◌≡◌, ◌<◌, ◌^◌, ◌⊎◌, ⊤, ℕ, List, [], ◌∷◌, ◌++◌, Contains, length, map}
 use Rattle.std.specs.List.{concat}
 use Rattle.star_label.specs.Files.{File, IsOrdered}
 use Rattle.star_plan.specs.Plan.{Plan}
@@ -9,7 +9,7 @@ use Rattle.star_report.specs.Wanted.{IsFullText}
 use Rattle.star_report.specs.declared.wanted.Wanted.{Wanted}
 use Rattle.star_shards.specs.Joined.{IsJoined, IsJoinedText}
 use Rattle.star_shards.specs.Lines.{Report, report_text}
-use Rattle.star_lines.specs.Lines.{HavePlainLabels, entry_text}
+use Rattle.star_lines.specs.Lines.{HavePlainLabels, IsWhole, entry_text}
 
 -- a report, as `--join` reads it, is that of a plan of files
 pub record IsOf (wanted : Wanted) (files : List File) (plan : Plan) (r : Report) : Type 0 where
@@ -34,12 +34,12 @@ unfoldable pub HasRoot : List Plan → ℕ → Type 0
 HasRoot [] n = ⊥
 HasRoot (p ∷ ps) n = Contains p.roots n ⊎ HasRoot ps n
 
--- The join of reports of plans of the same files, of which none leaves a module out, is the report of the plan that has
+-- The join of reports of plans of the same files, of which none leaves a module out or has calls, is the report of the plan that has
 -- all their roots.
 abbrev pub ReportsJoin : Type 0
 ReportsJoin =
     (wanted : Wanted) (files : List File) (ps : List Plan) (rs : List Report) (plan : Plan) (whole joined : Report)
-    → wanted.only_roots ≡ false → HavePlainLabels files → IsOrdered files → IsPlanOf files plan
+    → IsWhole wanted → HavePlainLabels files → IsOrdered files → IsPlanOf files plan
     → AreParts files plan ps → ((n : ℕ) → Contains plan.roots n → HasRoot ps n) → AreOf wanted files ps rs
     → IsOf wanted files plan whole → IsJoined rs joined → joined ≡ whole
 
@@ -55,7 +55,7 @@ AreTexts wanted files (p ∷ ps) [] = ⊥
 abbrev pub JoinsAreReports : Type 0
 JoinsAreReports =
     (wanted : Wanted) (files : List File) (ps : List Plan) (ts : List (List ℕ)) (plan : Plan) (text : List ℕ)
-    (joined : Report) → wanted.only_roots ≡ false → HavePlainLabels files → IsOrdered files → IsPlanOf files plan
+    (joined : Report) → IsWhole wanted → HavePlainLabels files → IsOrdered files → IsPlanOf files plan
     → AreParts files plan ps → ((n : ℕ) → Contains plan.roots n → HasRoot ps n) → AreTexts wanted files ps ts
     → IsFullText wanted files plan text → length (concat ts) < 2 ^ 63 → IsJoinedText (concat ts) joined
     → report_text joined ++ 10 ∷ [] ≡ text

@@ -13,6 +13,10 @@ use Rattle.star_shards.specs.Lines.{IsReport, IsRun, Report}
 abbrev pub HavePlainLabels : List File → Type 0
 HavePlainLabels files = (n : ℕ) → IsPlain (label_at files n)
 
+-- the report leaves no module out, and has no calls
+abbrev pub IsWhole : Wanted → Type 0
+IsWhole wanted = (wanted.only_roots ≡ false) × (wanted.calls ≡ false)
+
 -- the entry of a module
 abbrev pub entry_text : List File → Full → List ℕ
 entry_text files f = compact_text (full_data files f)
@@ -27,8 +31,8 @@ pub record IsLine (files : List File) (begun : ℕ) (fulls : List Full) (text : 
   pub labels : map (λ f. label_of (entry_text files f)) fulls ≡ map (λ f. label_at files f.shown.file) fulls
   pub good : map (λ f. is_good (entry_text files f)) fulls ≡ map (λ f. is_ok f.shown.ended) fulls
 
--- so is the text of each report, with any further members, that leaves no module out
+-- so is the text of each report, with any further members but calls, that leaves no module out
 abbrev pub ReportsAreLines : Type 0
 ReportsAreLines =
-    (wanted : Wanted) (files : List File) (plan : Plan) (text : List ℕ) → wanted.only_roots ≡ false
+    (wanted : Wanted) (files : List File) (plan : Plan) (text : List ℕ) → IsWhole wanted
     → HavePlainLabels files → (x : IsFullText wanted files plan text) → IsLine files x.begun x.fulls text

@@ -11,7 +11,7 @@ ghost use Rattle.star_store.specs.Content.{content as key_content};
 ghost use Rattle.star_store.specs.Key.{key_levels};
 ghost use Rattle.star_store.specs.Store.{Shelf, bound, look, slot_value};
 ghost use Rattle.star_meaning.specs.Calls.{deactivate, is_active};
-ghost use Rattle.star_meaning.specs.Run.{Done, add_line, agreed, and_then, build, give, make, pay, storing, visiting};
+ghost use Rattle.star_meaning.specs.Run.{Done, add_said, agreed, and_then, build, give, make, pay, storing, visiting};
 ghost use Rattle.star_meaning.specs.Program.{seen};
 ghost use Rattle.star_machine.specs.Refines.{Refines, RefinesBy};
 ghost use Rattle.star_machine.specs.Shown.{shown};
@@ -25,6 +25,7 @@ use crate::fault::{EvalError, fault_at, refused};
 use crate::search::equal_place;
 use crate::setting::Setting;
 use star_meaning::fault::FaultCode;
+use star_meaning::said::Said;
 use star_meaning::story::Story;
 use star_store::arena::Arena;
 use star_store::arena::write::Change;
@@ -46,7 +47,7 @@ use std::cmp::Ordering;
 use std::marker::Model;
 
 /// The part that a run changes: the running module's store, the definitions that are active (file and number, the
-/// innermost first), the steps left, and the lines printed. Beside them is the trail that a fault has left on its way
+/// innermost first), the steps left, and what was said. Beside them is the trail that a fault has left on its way
 /// out.
 #[derive(Drop)]
 pub struct Machine {
@@ -54,7 +55,7 @@ pub struct Machine {
     arena: Arena,
     active: Vec<(u32, u32)>,
     steps: u64,
-    lines: Vec<Text>,
+    lines: Vec<Said>,
     pub(crate) left: Story,
 }
 
@@ -297,6 +298,21 @@ impl Machine {
         }
     }
 
+    /// Pays 1, the bytes of a draft and these further steps, and answers the draft's text, which is built only if they
+    /// can be paid.
+    #[tactic(auto, unfolding(star_meaning::specs::Run::pay))]
+    pub fn pay_for_more(&mut self, line: usize, draft: Draft, more: u64) -> Result<Text, EvalError>
+        ensures { Refines (and_then (pay line (1 + length draft + more) self.old) (λ paid. give draft)) result self.new }
+    {
+        match draft.text_within(self.steps as usize)? {
+            Some(text) => {
+                self.pay(line, 1 + text.as_str().len() as u128 + more as u128)?;
+                Ok(text)
+            }
+            None => Err(fault_at(FaultCode::Steps, line)),
+        }
+    }
+
     /// A new tuple: 1 and its items are paid.
     pub fn new_tuple(&mut self, line: usize, items: Values) -> Result<Value, EvalError>
         ensures { Refines (new_tuple line items self.old) result self.new }
@@ -472,6 +488,7 @@ impl Machine {
             self.alloc,
             &self.arena,
             setting.homes(),
+            setting.language().recorded.names(),
             &mut budget,
             value,
             room,
@@ -536,12 +553,12 @@ impl Machine {
         answer.map_err(|fault| refused(fault, line))
     }
 
-    /// Prints a line.
-    #[tactic(auto, unfolding(star_meaning::specs::Run::add_line))]
-    pub fn add_line(&mut self, text: Text) -> Result<(), EvalError>
-        ensures { Refines (add_line text self.old) result self.new }
+    /// Prints a line, or records a call.
+    #[tactic(auto, unfolding(star_meaning::specs::Run::add_said))]
+    pub fn add_said(&mut self, said: Said) -> Result<(), EvalError>
+        ensures { Refines (add_said said self.old) result self.new }
     {
-        self.lines.push(text)?;
+        self.lines.push(said)?;
         Ok(())
     }
 
@@ -553,8 +570,8 @@ impl Machine {
         self.arena.close_iter(value);
     }
 
-    /// The parts of a run that has ended: its store, the lines printed, and the trail of a fault.
-    pub fn into_parts(self) -> (Arena, Vec<Text>, Story)
+    /// The parts of a run that has ended: its store, what was said, and the trail of a fault.
+    pub fn into_parts(self) -> (Arena, Vec<Said>, Story)
         ensures store { result.0 ≡ self.store }
         ensures lines { result.1.items ≡ self.lines }
     {

@@ -1,5 +1,5 @@
 //! `Setting`: the part that a run reads and never changes: the running file, the published stores, the loads, the
-//! prelude's file.
+//! prelude's file, the language.
 //!
 //! It has the statements of all files and not their programs, whose maps have borrowed names as keys and cannot be
 //! taken at a shorter lifetime. The programs are in `World` of `star_world`, whose invariant ties the two. `loaded`
@@ -12,14 +12,14 @@ ghost use Rattle.star_meaning.specs.Program.{file_of, published_of};
 ghost use Rattle.star_meaning.specs.Programs.{load_files};
 ghost use Rattle.star_machine.specs.Settings.{setting_over};
 
-use star_dialect::Dialect;
+use star_dialect::{Dialect, Language};
 use star_scope::loads::Load;
 use star_store::arena::{Frozen, Homes};
 use star_tree::tree::Statement;
 use std::marker::Model;
 
 /// The environment of a run: the running file, the published stores that it reaches, the statements of all files by
-/// their numbers, the loads of the running file, and the prelude's file.
+/// their numbers, the loads of the running file, the prelude's file, and the language.
 #[derive(Drop)]
 pub struct Setting<'a> {
     home: u32,
@@ -27,7 +27,7 @@ pub struct Setting<'a> {
     files: &'a [Option<&'a [Statement]>],
     loads: &'a [Load],
     prelude: Option<u32>,
-    dialect: Dialect,
+    language: &'a Language,
 }
 
 impl<'a> Model for Setting<'a> {
@@ -46,13 +46,13 @@ impl<'a> Model for Setting<'a> {
 
     ghost coded = { Prim.hlevel (codes, expression.the_row.coded, parameter.the_row.coded, statement.the_row.coded) };
 
-    ghost view = { λ s. record { home = s.home; outlines = outlines (map (option_map (λ ss. ss.now)) s.files.now); shelf = s.homes.now; loads = load_files s.loads.now; prelude = s.prelude; dialect = s.dialect } };
+    ghost view = { λ s. record { home = s.home; outlines = outlines (map (option_map (λ ss. ss.now)) s.files.now); shelf = s.homes.now; loads = load_files s.loads.now; prelude = s.prelude; language = s.language.now } };
 }
 
 impl<'a> Setting<'a> {
     /// The setting of a file that reaches these stores.
-    pub fn new(home: u32, homes: &'a Homes<'a>) -> Setting<'a>
-        ensures { result ≡ record { home = home; outlines = []; shelf = homes.now; loads = []; prelude = None; dialect = Dialect.Core } }
+    pub fn new(home: u32, homes: &'a Homes<'a>, language: &'a Language) -> Setting<'a>
+        ensures { result ≡ record { home = home; outlines = []; shelf = homes.now; loads = []; prelude = None; language = language.now } }
     {
         Setting {
             home,
@@ -60,21 +60,21 @@ impl<'a> Setting<'a> {
             files: &[],
             loads: &[],
             prelude: None,
-            dialect: Dialect::Core,
+            language,
         }
     }
 
     /// The setting of a file among files with these statements (`None` for a file without a program), with the loads of
-    /// its own, and the prelude's file.
+    /// its own, the prelude's file, and the language.
     pub fn over(
         home: u32,
         homes: &'a Homes<'a>,
         files: &'a [Option<&'a [Statement]>],
         loads: &'a [Load],
         prelude: Option<u32>,
-        dialect: Dialect,
+        language: &'a Language,
     ) -> Setting<'a>
-        ensures { result ≡ setting_over home homes.now files.now loads.now prelude dialect }
+        ensures { result ≡ setting_over home homes.now files.now loads.now prelude language.now }
     {
         Setting {
             home,
@@ -82,7 +82,7 @@ impl<'a> Setting<'a> {
             files,
             loads,
             prelude,
-            dialect,
+            language,
         }
     }
 
@@ -121,11 +121,18 @@ impl<'a> Setting<'a> {
         self.prelude
     }
 
-    /// The dialect.
-    pub fn dialect(&self) -> Dialect
-        ensures { result ≡ self.now.dialect }
+    /// The language.
+    pub fn language(&self) -> &Language
+        ensures { result.now ≡ self.now.language }
     {
-        self.dialect
+        self.language
+    }
+
+    /// The dialect of the language.
+    pub fn dialect(&self) -> Dialect
+        ensures { result ≡ self.now.language.dialect }
+    {
+        self.language.dialect
     }
 }
 

@@ -265,7 +265,7 @@ called_then tables trees w m n p ss chain h levels ps s fit fits v (Done (AFunct
     let r = (call_function tables trees w m n p ss chain h levels f d ps fitting.statements fitting.chain fitting.stands fitting.is_there c.1).holds t (fit_follows trees w s t k fit) now in
     (r.0, good_on trees w s t (carries_follows s t k) _ r.1)
 called_then tables trees w m n p ss chain h levels ps s fit fits v (Done (ABuiltIn b) t) is k =
-    let r = (agree_then trees w p.file chain (Some p.frame) _ _ _ _ (agree_kept trees w p.file chain (Some p.frame) _ (keeps-given w p.line ps)) (λ g. agree-called_built_in tables trees w m n p ss chain h levels b g (takes_key w.dialect g))).holds t (fit_follows trees w s t k fit) (chain_carries w s t (carries_follows s t k) p.file chain (Some p.frame) fits) in
+    let r = (agree_then trees w p.file chain (Some p.frame) _ _ _ _ (agree_kept trees w p.file chain (Some p.frame) _ (keeps-given w p.line ps)) (λ g. agree-called_built_in tables trees w m n p ss chain h levels b g (takes_key w.language.dialect g))).holds t (fit_follows trees w s t k fit) (chain_carries w s t (carries_follows s t k) p.file chain (Some p.frame) fits) in
     (r.0, good_on trees w s t (carries_follows s t k) _ r.1)
 called_then tables trees w m n p ss chain h levels ps s fit fits v (Done (AMethod b x) t) is k =
     let r = (agree_then trees w p.file chain (Some p.frame) _ _ _ _ (agree_kept trees w p.file chain (Some p.frame) _ (keeps-given w p.line ps)) (λ g. agree_kept trees w p.file chain (Some p.frame) _ (kept_by w (respects-call_method w levels p.line b x g)))).holds t (fit_follows trees w s t k fit) (chain_carries w s t (carries_follows s t k) p.file chain (Some p.frame) fits) in

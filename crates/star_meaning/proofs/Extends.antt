@@ -11,7 +11,8 @@ use Rattle.star_store.specs.Spend.{Spend, Spent, Enough, Lacks}
 use Rattle.star_store.specs.Write.{write}
 use Rattle.star_meaning.specs.declared.fault.FaultCode.{FaultCode}
 use Rattle.star_meaning.specs.declared.fault.FaultCode.TheVariants as code
-use Rattle.star_meaning.specs.Run.{State, Outcome, Done, Failed, Action, and_then, ◌>>=◌, give, fail, pay, found, code_of, settled, visiting, seeing, storing, make, build, add_line}
+use Rattle.star_meaning.specs.declared.said.Said.{Said}
+use Rattle.star_meaning.specs.Run.{State, Outcome, Done, Failed, Action, and_then, ◌>>=◌, give, fail, pay, found, code_of, settled, visiting, seeing, storing, make, build, add_said}
 use Rattle.star_meaning.specs.Program.{Setting}
 use Rattle.star_meaning.specs.Values.{written, change}
 use Rattle.star_meaning.specs.Calls.{activate, deactivate}
@@ -97,9 +98,9 @@ pub extends_change : (w : Setting) (line : ℕ) (v : Value) (c : Change) → Ext
 unfolding change
 extends_change w line v c = extends_seeing _ (λ k s. refl) (λ s. extends_written line (write s.store w.shelf v c))
 
-pub extends_add_line : (bytes : List ℕ) → Extends (add_line bytes)
-unfolding add_line
-extends_add_line bytes = record { holds = λ k s n. refl }
+pub extends_add_said : (x : Said) → Extends (add_said x)
+unfolding add_said
+extends_add_said x = record { holds = λ k s n. refl }
 
 pub extends_activate : (f : Function) → Extends (activate f)
 unfolding activate

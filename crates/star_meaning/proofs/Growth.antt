@@ -12,7 +12,8 @@ use Rattle.star_store.specs.Spend.{Spend, Spent, Enough, Lacks}
 use Rattle.star_store.specs.Write.{allowed, made_if, in_store}
 use Rattle.star_meaning.specs.declared.fault.FaultCode.{FaultCode}
 use Rattle.star_meaning.specs.declared.fault.FaultCode.TheVariants as code
-use Rattle.star_meaning.specs.Run.{State, Outcome, Done, Failed, Action, and_then, ◌>>=◌, give, fail, pay, found, settled, visiting, seeing, storing, make, build, add_line}
+use Rattle.star_meaning.specs.declared.said.Said.{Said}
+use Rattle.star_meaning.specs.Run.{State, Outcome, Done, Failed, Action, and_then, ◌>>=◌, give, fail, pay, found, settled, visiting, seeing, storing, make, build, add_said}
 use Rattle.star_meaning.specs.Program.{Setting}
 use Rattle.star_meaning.specs.Values.{written, change}
 use Rattle.star_meaning.specs.Laws.{Grows, Grown}
@@ -39,8 +40,8 @@ pub same : (s : State) → Grows s s
 same s = less s s.store s.active s.steps refl (omega arith) (omega arith)
 
 grown_on : {A : Type 0} (s u : State) → Grows s u → (o : Outcome A) → Grown u o → Grown s o
-grown_on s u a (Done x t) b = record { home = b.home ∙ a.home; cells = omega (arith, a.cells, b.cells); steps = omega (arith, a.steps, b.steps); lines = (a.lines.0 ++ b.lines.0, b.lines.1 ∙ ap (λ (xs : List (List ℕ)). xs ++ b.lines.0) a.lines.1 ∙ append_assoc s.lines a.lines.0 b.lines.0) }
-grown_on s u a (Failed f lines) b = (a.lines.0 ++ b.0, b.1 ∙ ap (λ (xs : List (List ℕ)). xs ++ b.0) a.lines.1 ∙ append_assoc s.lines a.lines.0 b.0)
+grown_on s u a (Done x t) b = record { home = b.home ∙ a.home; cells = omega (arith, a.cells, b.cells); steps = omega (arith, a.steps, b.steps); lines = (a.lines.0 ++ b.lines.0, b.lines.1 ∙ ap (λ (xs : List Said). xs ++ b.lines.0) a.lines.1 ∙ append_assoc s.lines a.lines.0 b.lines.0) }
+grown_on s u a (Failed f lines) b = (a.lines.0 ++ b.0, b.1 ∙ ap (λ (xs : List Said). xs ++ b.0) a.lines.1 ∙ append_assoc s.lines a.lines.0 b.0)
 
 grown_then : {A B : Type 0} (s : State) (o : Outcome A) (f : A → Action B) → Grown s o → ((x : A) → Keeps (f x)) → Grown s (and_then o f)
 grown_then s (Done x u) f h k = grown_on s u h (f x u) ((k x).holds u)
@@ -140,9 +141,9 @@ pub keeps_change : (w : Setting) (line : ℕ) (v : Value) (c : Change) → Keeps
 unfolding change
 keeps_change w line v c = record { holds = λ s. store_written (allowed s.store w.shelf v c) _ v line s }
 
-pub keeps_add_line : (bytes : List ℕ) → Keeps (add_line bytes)
-unfolding add_line
-keeps_add_line bytes = record { holds = λ s. record { home = refl; cells = omega arith; steps = omega arith; lines = (bytes ∷ [], refl) } }
+pub keeps_add_said : (x : Said) → Keeps (add_said x)
+unfolding add_said
+keeps_add_said x = record { holds = λ s. record { home = refl; cells = omega arith; steps = omega arith; lines = (x ∷ [], refl) } }
 
 pub keeps_activate : (f : Function) → Keeps (activate f)
 unfolding activate

@@ -10,13 +10,14 @@ use Rattle.star_store.specs.declared.arena.write.Change.{Change}
 use Rattle.star_store.specs.declared.fault.StoreFault.{StoreFault}
 use Rattle.star_store.specs.Spend.{Spend}
 use Rattle.star_meaning.specs.declared.fault.FaultCode.{FaultCode}
-use Rattle.star_meaning.specs.Run.{State, Action, ◌>>=◌, give, fail, pay, check, found, code_of, agreed, visiting, seeing, make, build, each, all_of, collect, until, add_line}
+use Rattle.star_meaning.specs.Run.{State, Action, ◌>>=◌, give, fail, pay, check, found, code_of, agreed, visiting, seeing, make, build, each, all_of, collect, until, add_said}
 use Rattle.star_meaning.specs.Program.{Setting}
 use Rattle.star_meaning.specs.Values.{change, iterate, leave}
 use Rattle.star_meaning.proofs.Spending.{Spends, spends-same, spends-order, spends-check, spends-text, spends-json, spends-bare}
 use Rattle.star_meaning.proofs.Extends.{with_more}
 use Rattle.star_meaning.specs.declared.site.Flow.{Flow}
 use Rattle.star_meaning.specs.declared.site.Flow.TheVariants as flow
+use Rattle.star_meaning.specs.declared.said.Said.{Said}
 use Rattle.star_meaning.specs.Semantics.{block, then_go, then_turn, turns, repeat}
 
 -- an invariant of the runs in a setting: the single actions keep it, and so do actions that are joined
@@ -37,7 +38,7 @@ pub record Invariant (w : Setting) : Type 1 where
   pub makes_struct : (fs : List (List ℕ × Value)) → Kept (make (cell.Struct fs))
   pub makes_set : (es : List (Value × Value)) → Kept (make (cell.Set es))
   pub changes : (line : ℕ) (v : Value) (c : Change) → Kept (change w line v c)
-  pub adds_line : (bytes : List ℕ) → Kept (add_line bytes)
+  pub adds_said : (x : Said) → Kept (add_said x)
   pub iterates : {A : Type 0} (line : ℕ) (v : Value) (m : ℕ → Action A) → ((n : ℕ) → Kept (m n)) → Kept (iterate w line v >>= λ n. m n >>= λ x. leave v)
   pub loops : {A : Type 0} (line : ℕ) (v : Value) (m : ℕ → Action A) → ((n : ℕ) → Kept (m n)) → Kept (iterate w line v >>= λ n. m n >>= λ x. leave v >>= λ _. give x)
 
@@ -125,8 +126,8 @@ respects_visiting {inv = inv} line f same k = record { kept = inv.visits line f 
 pub respects_change : (w : Setting) {inv : Invariant w} (line : ℕ) (v : Value) (c : Change) → Respects inv (change w line v c)
 respects_change w {inv = inv} line v c = record { kept = inv.changes line v c }
 
-pub respects_add_line : {w : Setting} {inv : Invariant w} (bytes : List ℕ) → Respects inv (add_line bytes)
-respects_add_line {inv = inv} bytes = record { kept = inv.adds_line bytes }
+pub respects_add_said : {w : Setting} {inv : Invariant w} (x : Said) → Respects inv (add_said x)
+respects_add_said {inv = inv} x = record { kept = inv.adds_said x }
 
 pub respects_while : {A : Type 0} (w : Setting) {inv : Invariant w} (line : ℕ) (v : Value) (m : ℕ → Action A) → ((n : ℕ) → Respects inv (m n)) → Respects inv (iterate w line v >>= λ n. m n >>= λ x. leave v)
 respects_while w {inv = inv} line v m k = record { kept = inv.iterates line v m (λ n. (k n).kept) }
@@ -158,4 +159,4 @@ pub respects_repeat : {w : Setting} {inv : Invariant w} (f : ℕ → Action (Uni
 respects_repeat f zero j k = respects_give {A = Unit {0}} tt
 respects_repeat f (suc n) j k = respects_then _ _ (k j) (λ _. respects_repeat f n (j + 1) k)
 
-pub ruleset respects = (refl, spends-same, spends-order, spends-check, spends-text, spends-json, spends-bare, respects_while, respects_looping, respects_then, respects_give, respects_fail, respects_if, respects_found, respects_pay, respects_seeing, respects_check, respects_make_text, respects_make_tuple, respects_make_list, respects_make_range, respects_make_bound, respects_make_struct, respects_make_set, respects_make_empty, respects_build, respects_each, respects_all_of, respects_collect, respects_until, respects_agreed, respects_visiting, respects_change, respects_add_line)
+pub ruleset respects = (refl, spends-same, spends-order, spends-check, spends-text, spends-json, spends-bare, respects_while, respects_looping, respects_then, respects_give, respects_fail, respects_if, respects_found, respects_pay, respects_seeing, respects_check, respects_make_text, respects_make_tuple, respects_make_list, respects_make_range, respects_make_bound, respects_make_struct, respects_make_set, respects_make_empty, respects_build, respects_each, respects_all_of, respects_collect, respects_until, respects_agreed, respects_visiting, respects_change, respects_add_said)

@@ -22,7 +22,8 @@ use Rattle.star_dialect.specs.declared.Dialect.TheVariants.{Core}
 use Rattle.star_meaning.specs.declared.fault.FaultCode.{FaultCode}
 use Rattle.star_meaning.specs.declared.site.Site.{Site}
 use Rattle.star_meaning.specs.declared.site.Flow.{Flow}
-use Rattle.star_meaning.specs.Run.{State, Action, ◌>>=◌, give, fail, pay, check, found, agreed, visiting, seeing, storing, make, build, each, all_of, collect, until, add_line}
+use Rattle.star_meaning.specs.declared.said.Said.{Said}
+use Rattle.star_meaning.specs.Run.{State, Action, ◌>>=◌, give, fail, pay, check, found, agreed, visiting, seeing, storing, make, build, each, all_of, collect, until, add_said}
 use Rattle.star_meaning.specs.Program.{Setting, Variables}
 use Rattle.star_meaning.specs.Values.{change, count_of, iterate, leave}
 use Rattle.star_meaning.specs.Binding.{BoundArgument}
@@ -140,8 +141,8 @@ keeps_bound frame slot v = record { grows = growth.keeps_storing _ (growth.keepi
 pub keeps_change : {q : Bool} (w : Setting) (line : ℕ) (v : Value) (c : Change) → Keeps q (change w line v c)
 keeps_change w line v c = record { grows = growth.keeps_change w line v c; stays = stays.keeps_change w line v c; extends = extends.extends_change w line v c; follows = λ h. quiet.keeps_change w line v c }
 
-pub keeps_add_line : {q : Bool} (bytes : List ℕ) → Keeps q (add_line bytes)
-keeps_add_line bytes = record { grows = growth.keeps_add_line bytes; stays = stays.keeps_add_line bytes; extends = extends.extends_add_line bytes; follows = λ h. quiet.keeps_add_line bytes }
+pub keeps_add_said : {q : Bool} (x : Said) → Keeps q (add_said x)
+keeps_add_said x = record { grows = growth.keeps_add_said x; stays = stays.keeps_add_said x; extends = extends.extends_add_said x; follows = λ h. quiet.keeps_add_said x }
 
 -- a loop over a value, which is being iterated meanwhile
 grows_iterate : (w : Setting) (line : ℕ) (v : Value) → growth.Keeps (iterate w line v)
@@ -189,7 +190,7 @@ kept w q = record {
   makes_struct = keeps_make_struct;
   makes_set = keeps_make_set;
   changes = keeps_change w;
-  adds_line = keeps_add_line;
+  adds_said = keeps_add_said;
   iterates = keeps_while w;
   loops = keeps_looping w;
 }
@@ -200,7 +201,7 @@ kept_by w k = k.kept
 -- ---- loops, which look at no setting
 
 nowhere : Setting
-nowhere = record { home = 0; outlines = []; shelf = []; loads = []; prelude = None; dialect = Core }
+nowhere = record { home = 0; outlines = []; shelf = []; loads = []; prelude = None; language = record { dialect = Core; recorded = [] } }
 
 loop : {q : Bool} {A : Type 0} {m : Action A} → Respects (kept nowhere q) m → Keeps q m
 loop k = kept_by nowhere k
@@ -267,4 +268,4 @@ keeps_parts m k = k.parts
 pub keeps_call : (m : Semantics) → AllKeep m → (p : Site) (f : Function) (d : Definition) (shares : List (Name × BoundArgument)) → Keeps false (m.call p f d shares)
 keeps_call m k = k.call
 
-pub ruleset keeps = (refl, spends-same, spends-order, spends-check, spends-text, spends-json, spends-bare, keeps_while, keeps_looping, keeps_active, keeps_then, keeps_give, keeps_fail, keeps_if, keeps_found, keeps_pay, keeps_seeing, keeps_check, keeps_make_text, keeps_make_tuple, keeps_make_list, keeps_make_dict, keeps_make_range, keeps_make_bound, keeps_make_struct, keeps_make_set, keeps_make_frame, keeps_build_text, keeps_build_tuple, keeps_build_list, keeps_build_dict, keeps_build_range, keeps_build_bound, keeps_build_struct, keeps_build_set, keeps_each, keeps_all_of, keeps_collect, keeps_until, keeps_agreed, keeps_visiting, keeps_bound, keeps_change, keeps_add_line, keeps_make, keeps_build, keeps_block, keeps_turns, keeps_repeat, keeps_read, keeps_bind, keeps_frame, keeps_expr, keeps_stmt, keeps_assign, keeps_parts, keeps_call)
+pub ruleset keeps = (refl, spends-same, spends-order, spends-check, spends-text, spends-json, spends-bare, keeps_while, keeps_looping, keeps_active, keeps_then, keeps_give, keeps_fail, keeps_if, keeps_found, keeps_pay, keeps_seeing, keeps_check, keeps_make_text, keeps_make_tuple, keeps_make_list, keeps_make_dict, keeps_make_range, keeps_make_bound, keeps_make_struct, keeps_make_set, keeps_make_frame, keeps_build_text, keeps_build_tuple, keeps_build_list, keeps_build_dict, keeps_build_range, keeps_build_bound, keeps_build_struct, keeps_build_set, keeps_each, keeps_all_of, keeps_collect, keeps_until, keeps_agreed, keeps_visiting, keeps_bound, keeps_change, keeps_add_said, keeps_make, keeps_build, keeps_block, keeps_turns, keeps_repeat, keeps_read, keeps_bind, keeps_frame, keeps_expr, keeps_stmt, keeps_assign, keeps_parts, keeps_call)

@@ -20,7 +20,7 @@ use Rattle.star_meaning.proofs.Keeps.{keeps, kept_by, Keeps}
 use Rattle.star_meaning.proofs.KeepsAttributes.{respects-call_chr, respects-call_dir, respects-call_getattr, respects-call_hasattr, respects-call_hash, respects-call_ord, respects-call_struct}
 use Rattle.star_meaning.proofs.KeepsValues.{respects-with_content, respects-want_int, respects-want_text, respects-new_int, respects-new_text, respects-new_tuple, respects-new_list, respects-count_of, respects-take_item, respects-take_items, respects-take_all, respects-is_true, respects-compare, respects-repr, respects-str}
 use Rattle.star_meaning.proofs.KeepsArguments.{respects-positional, respects-with_name, respects-only_one, respects-none_or_one, respects-one_or_two}
-use Rattle.star_meaning.proofs.KeepsJson.{keeps-call_decode, respects-call_encode, respects-call_encode_indent}
+use Rattle.star_meaning.proofs.KeepsJson.{keeps-call_decode, respects-call_encode, respects-call_encode_indent, respects-call_recorded}
 use Rattle.star_meaning.proofs.KeepsPairs.{respects-pairs_of, respects-pairs_count, keeps-dict_of}
 
 pub respects-absolute : {w : Setting} {inv : Invariant w} → (line : ℕ) (z : ℤ) → Respects inv (absolute line z)
@@ -98,7 +98,7 @@ respects-int_of_dialect w line g dialect.Core = respects-int_alone w line g
 respects-int_of_dialect w line g dialect.Extended = respects-int_with_base w line g
 
 pub respects-call_int : (w : Setting) {inv : Invariant w} (line : ℕ) (g : Arguments) → Respects inv (call_int w line g)
-respects-call_int w line g = respects-int_of_dialect w line g w.dialect
+respects-call_int w line g = respects-int_of_dialect w line g w.language.dialect
 
 pub respects-call_len : (w : Setting) {inv : Invariant w} (line : ℕ) (g : Arguments) → Respects inv (call_len w line g)
 respects-call_len w line g = search (respects, respects-with_content, respects-new_int, respects-positional, respects-only_one) depth 14
@@ -207,3 +207,4 @@ keeps-call_built_in w levels line built_in.Struct g = search (keeps, kept_by w, 
 keeps-call_built_in w levels line built_in.JsonDecode g = search (keeps, keeps-call_decode) depth 14
 keeps-call_built_in w levels line built_in.JsonEncode g = search (keeps, kept_by w, respects-call_encode) depth 14
 keeps-call_built_in w levels line built_in.JsonEncodeIndent g = search (keeps, kept_by w, respects-call_encode_indent) depth 14
+keeps-call_built_in w levels line (built_in.Recorded i) g = search (keeps, kept_by w, respects-call_recorded) depth 14

@@ -68,7 +68,7 @@ keeps-called_built_in w levels m p b g false k0 = keeps-call_built_in w levels p
 
 pub keeps-called : (w : Setting) (levels : ℕ) (m : Semantics) (p : Site) (a4 : Callee) (g : Arguments) → AllKeep m → Keeps false (called w levels m p a4 g)
 keeps-called w levels m p (AFunction f d) g k0 = keeps-called_plainly w levels m p (AFunction f d) g k0
-keeps-called w levels m p (ABuiltIn b) g k0 = keeps-called_built_in w levels m p b g (takes_key w.dialect g) k0
+keeps-called w levels m p (ABuiltIn b) g k0 = keeps-called_built_in w levels m p b g (takes_key w.language.dialect g) k0
 keeps-called w levels m p (AMethod b x) g k0 = keeps-called_plainly w levels m p (AMethod b x) g k0
 
 pub keeps-call_node : (w : Setting) (levels : ℕ) (m : Semantics) (p : Site) (f : Expression) (es : List Argument) → AllKeep m → Keeps false (call_node w levels m p f es)

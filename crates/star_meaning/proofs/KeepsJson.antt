@@ -10,6 +10,8 @@ use Rattle.star_meaning.specs.Program.{Setting}
 use Rattle.star_meaning.specs.Values.{new_text}
 use Rattle.star_meaning.specs.declared.given.Arguments.{Arguments}
 use Rattle.star_meaning.specs.Json.{built, call_decode, call_encode, call_encode_indent, decoded, decoded_items, decoded_members, text_or}
+use Rattle.star_meaning.specs.Recorded.{call_recorded, inputs_of, json_member, record_call}
+use Rattle.star_meaning.specs.declared.said.RecordedCall.{RecordedCall}
 use Rattle.star_meaning.proofs.Invariants.{Invariant, Respects, respects}
 use Rattle.star_meaning.proofs.Keeps.{keeps, keeps_give, keeps_then, kept_by, Keeps}
 use Rattle.star_meaning.proofs.KeepsArguments.{respects-positional, respects-only_one}
@@ -17,6 +19,18 @@ use Rattle.star_meaning.proofs.KeepsValues.{respects-encoded, respects-new_text,
 
 pub respects-call_encode : (w : Setting) {inv : Invariant w} (levels : ℕ) (line : ℕ) (g : Arguments) → Respects inv (call_encode w levels line g)
 respects-call_encode w levels line g = search (respects, respects-encoded, respects-new_text, respects-positional, respects-only_one) depth 14
+
+pub respects-json_member : (w : Setting) {inv : Invariant w} (levels : ℕ) (line : ℕ) (f : List ℕ × Value) → Respects inv (json_member w levels line f)
+respects-json_member w levels line f = search (respects, respects-encoded) depth 14
+
+pub respects-inputs_of : (w : Setting) {inv : Invariant w} (levels : ℕ) (line : ℕ) (g : Arguments) → Respects inv (inputs_of w levels line g)
+respects-inputs_of w levels line g = search (respects, respects-encoded, respects-json_member) depth 14
+
+pub respects-record_call : {w : Setting} {inv : Invariant w} → (line : ℕ) (c : RecordedCall) → Respects inv (record_call line c)
+respects-record_call line c = search respects depth 14
+
+pub respects-call_recorded : (w : Setting) {inv : Invariant w} (levels : ℕ) (line : ℕ) (i : ℕ) (g : Arguments) → Respects inv (call_recorded w levels line i g)
+respects-call_recorded w levels line i g = search (respects, respects-inputs_of, respects-record_call) depth 14
 
 pub respects-text_or : (w : Setting) {inv : Invariant w} (line : ℕ) (otherwise : List ℕ) (o : Option Value) → Respects inv (text_or w line otherwise o)
 respects-text_or w line otherwise None = search respects depth 14

@@ -61,4 +61,4 @@ respects-named : (w : Setting) {inv : Invariant w} (line : ℕ) (name t : List �
 respects-named w line name t g = search (respects, respects-call_in_table) depth 14
 
 pub respects-call_wider : (w : Setting) {inv : Invariant w} (line : ℕ) (name t : List ℕ) (g : Arguments) (core : Action Value) → Respects inv core → Respects inv (call_wider w line name t g core)
-respects-call_wider w line name t g core h = respects-in_dialect w.dialect core _ h (respects-named w line name t g)
+respects-call_wider w line name t g core h = respects-in_dialect w.language.dialect core _ h (respects-named w line name t g)

@@ -1,6 +1,6 @@
 -- The invariants of every run: variables.
 use Rattle.star_store.specs.declared.values.Value.{Value}
-use Rattle.star_dialect.specs.declared.Dialect.{Dialect}
+use Rattle.star_dialect.specs.declared.Language.{Language}
 use Rattle.star_tree.specs.declared.tree.Name.{Name}
 use Rattle.star_meaning.specs.declared.site.Site.{Site}
 use Rattle.star_meaning.specs.Program.{Setting}
@@ -8,7 +8,7 @@ use Rattle.std.proofs.Common.{ℕ, List, Option, Some, None, Bool}
 use Rattle.star_meaning.specs.Variables.{outside_prelude, outside, read_found, read_name, bind_at, bind_name, new_frame}
 use Rattle.star_meaning.proofs.Keeps.{keeps, Keeps}
 
-pub keeps-outside_prelude : {q : Bool} → (d : Dialect) (line : ℕ) (name : List ℕ) → Keeps q (outside_prelude d line name)
+pub keeps-outside_prelude : {q : Bool} → (d : Language) (line : ℕ) (name : List ℕ) → Keeps q (outside_prelude d line name)
 keeps-outside_prelude d line name = search keeps depth 14
 
 pub keeps-outside : {q : Bool} → (w : Setting) (a1 : Option ℕ) (file : ℕ) (line : ℕ) (name : List ℕ) → Keeps q (outside w a1 file line name)

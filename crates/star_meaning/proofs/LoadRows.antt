@@ -26,12 +26,12 @@ reached (Stopped f ls) = []
 
 -- a run of a file that loads nothing
 abbrev alone : List (Option Outline) → ℕ → ℕ → List Statement → Local
-alone outs home steps prog = local (record { home = home; outlines = outs; shelf = union []; loads = []; prelude = None; dialect = Core }) steps prog
+alone outs home steps prog = local (record { home = home; outlines = outs; shelf = union []; loads = []; prelude = None; language = record { dialect = Core; recorded = [] } }) steps prog
 
 -- a run of a file that has one load: the token of its label, and the file that it names
 abbrev over : Local → ℕ × ℕ → List (Option Outline) → ℕ → ℕ → List Statement → Local
 over below load outs home steps prog =
-    local (record { home = home; outlines = outs; shelf = union (reached below ∷ []); loads = load ∷ []; prelude = None; dialect = Core }) steps prog
+    local (record { home = home; outlines = outs; shelf = union (reached below ∷ []); loads = load ∷ []; prelude = None; language = record { dialect = Core; recorded = [] } }) steps prog
 
 abbrev absent_name_prog0 : List Statement
 absent_name_prog0 = ((at 1 101 (f.Load (record { text = (58 ∷ 98 ∷ 46 ∷ 115 ∷ 116 ∷ 97 ∷ 114 ∷ []); position = here 0 }) (record { local = n (113 ∷ []); loaded = record { text = (113 ∷ []); position = here 0 } } ∷ []))) ∷ [])
@@ -50,7 +50,7 @@ absent_name_m0 = over absent_name_m1 (101, 1) absent_name_outs 0 1000000 absent_
 
 -- a: load(":b.star", "q"); b: k = 1
 pub absent_name : (shown absent_name_m1 ≡ Good [] [] (((107 ∷ []), (49 ∷ [])) ∷ []) ([])) × (shown absent_name_m0 ≡ Stopped (record { code = code.NoName; line = 1 }) ([]))
-unfolding out-Form out-Expression out-Target out-Argument out-Clause out-Parameter denote.Hole.Carrier.out denote.Hole.Carrier.shown denote.Hole.Carrier.hidden digits Rattle.star_meaning.specs.Arguments.given Rattle.star_meaning.specs.Arguments.name_key Rattle.star_meaning.specs.Binding.bound_to Rattle.star_meaning.specs.Binding.build_arguments Rattle.star_meaning.specs.BuiltIns.call_built_in Rattle.star_meaning.specs.Calls.callee Rattle.star_meaning.specs.Calls.activate Rattle.star_meaning.specs.Calls.deactivate Rattle.star_meaning.specs.ListMethods.extend Rattle.star_meaning.specs.Attributes.attribute Rattle.star_meaning.specs.Methods.call_method Rattle.star_meaning.specs.Module.meaning Rattle.star_meaning.specs.Operators.operate Rattle.star_meaning.specs.Operators.prefix Rattle.star_meaning.specs.Operators.comparison Rattle.star_meaning.specs.Pairs.pairs_of Rattle.star_meaning.specs.Pairs.put_pairs Rattle.star_meaning.specs.Pairs.dict_of Rattle.star_meaning.specs.Pairs.update_with Rattle.star_meaning.specs.Run.pay Rattle.star_meaning.specs.Run.make Rattle.star_meaning.specs.Run.build Rattle.star_meaning.specs.Run.add_line Rattle.star_meaning.specs.Subscript.index Rattle.star_meaning.specs.Subscript.put_entry Rattle.star_meaning.specs.Subscript.set_index Rattle.star_meaning.specs.Subscript.slice Rattle.star_meaning.specs.Values.count_of Rattle.star_meaning.specs.Values.take_item Rattle.star_meaning.specs.Values.iterate Rattle.star_meaning.specs.Values.leave Rattle.star_meaning.specs.Values.is_true Rattle.star_meaning.specs.Values.equal Rattle.star_meaning.specs.Values.compare Rattle.star_meaning.specs.Values.check_key Rattle.star_meaning.specs.Values.repr Rattle.star_meaning.specs.Values.str Rattle.star_meaning.specs.Values.guard Rattle.star_meaning.specs.Values.change Rattle.star_meaning.specs.Variables.read_name Rattle.star_meaning.specs.Variables.bind_name Rattle.star_meaning.specs.Variables.new_frame Rattle.star_store.specs.Text.text Rattle.star_store.specs.Equal.same Rattle.star_store.specs.Order.order Rattle.star_store.specs.Key.check Rattle.star_store.specs.Key.is_key Rattle.star_store.specs.Key.same_key
+unfolding out-Form out-Expression out-Target out-Argument out-Clause out-Parameter denote.Hole.Carrier.out denote.Hole.Carrier.shown denote.Hole.Carrier.hidden digits Rattle.star_meaning.specs.Arguments.given Rattle.star_meaning.specs.Arguments.name_key Rattle.star_meaning.specs.Binding.bound_to Rattle.star_meaning.specs.Binding.build_arguments Rattle.star_meaning.specs.BuiltIns.call_built_in Rattle.star_meaning.specs.Calls.callee Rattle.star_meaning.specs.Calls.activate Rattle.star_meaning.specs.Calls.deactivate Rattle.star_meaning.specs.ListMethods.extend Rattle.star_meaning.specs.Attributes.attribute Rattle.star_meaning.specs.Methods.call_method Rattle.star_meaning.specs.Module.meaning Rattle.star_meaning.specs.Operators.operate Rattle.star_meaning.specs.Operators.prefix Rattle.star_meaning.specs.Operators.comparison Rattle.star_meaning.specs.Pairs.pairs_of Rattle.star_meaning.specs.Pairs.put_pairs Rattle.star_meaning.specs.Pairs.dict_of Rattle.star_meaning.specs.Pairs.update_with Rattle.star_meaning.specs.Run.pay Rattle.star_meaning.specs.Run.make Rattle.star_meaning.specs.Run.build Rattle.star_meaning.specs.Run.add_said Rattle.star_meaning.specs.Subscript.index Rattle.star_meaning.specs.Subscript.put_entry Rattle.star_meaning.specs.Subscript.set_index Rattle.star_meaning.specs.Subscript.slice Rattle.star_meaning.specs.Values.count_of Rattle.star_meaning.specs.Values.take_item Rattle.star_meaning.specs.Values.iterate Rattle.star_meaning.specs.Values.leave Rattle.star_meaning.specs.Values.is_true Rattle.star_meaning.specs.Values.equal Rattle.star_meaning.specs.Values.compare Rattle.star_meaning.specs.Values.check_key Rattle.star_meaning.specs.Values.repr Rattle.star_meaning.specs.Values.str Rattle.star_meaning.specs.Values.guard Rattle.star_meaning.specs.Values.change Rattle.star_meaning.specs.Variables.read_name Rattle.star_meaning.specs.Variables.bind_name Rattle.star_meaning.specs.Variables.new_frame Rattle.star_store.specs.Text.text Rattle.star_store.specs.Equal.same Rattle.star_store.specs.Order.order Rattle.star_store.specs.Key.check Rattle.star_store.specs.Key.is_key Rattle.star_store.specs.Key.same_key
 absent_name = (refl, refl)
 
 abbrev loaded_there_prog0 : List Statement
@@ -76,7 +76,7 @@ loaded_there_m0 = over loaded_there_m1 (101, 1) loaded_there_outs 0 1000000 load
 
 -- a: load(":b.star", "q"); b: load(":c.star", "q"); c: q = 1
 pub loaded_there : (shown loaded_there_m2 ≡ Good [] [] (((113 ∷ []), (49 ∷ [])) ∷ []) ([])) × (shown loaded_there_m1 ≡ Good [] [] ([]) ([])) × (shown loaded_there_m0 ≡ Stopped (record { code = code.NoName; line = 1 }) ([]))
-unfolding out-Form out-Expression out-Target out-Argument out-Clause out-Parameter denote.Hole.Carrier.out denote.Hole.Carrier.shown denote.Hole.Carrier.hidden digits Rattle.star_meaning.specs.Arguments.given Rattle.star_meaning.specs.Arguments.name_key Rattle.star_meaning.specs.Binding.bound_to Rattle.star_meaning.specs.Binding.build_arguments Rattle.star_meaning.specs.BuiltIns.call_built_in Rattle.star_meaning.specs.Calls.callee Rattle.star_meaning.specs.Calls.activate Rattle.star_meaning.specs.Calls.deactivate Rattle.star_meaning.specs.ListMethods.extend Rattle.star_meaning.specs.Attributes.attribute Rattle.star_meaning.specs.Methods.call_method Rattle.star_meaning.specs.Module.meaning Rattle.star_meaning.specs.Operators.operate Rattle.star_meaning.specs.Operators.prefix Rattle.star_meaning.specs.Operators.comparison Rattle.star_meaning.specs.Pairs.pairs_of Rattle.star_meaning.specs.Pairs.put_pairs Rattle.star_meaning.specs.Pairs.dict_of Rattle.star_meaning.specs.Pairs.update_with Rattle.star_meaning.specs.Run.pay Rattle.star_meaning.specs.Run.make Rattle.star_meaning.specs.Run.build Rattle.star_meaning.specs.Run.add_line Rattle.star_meaning.specs.Subscript.index Rattle.star_meaning.specs.Subscript.put_entry Rattle.star_meaning.specs.Subscript.set_index Rattle.star_meaning.specs.Subscript.slice Rattle.star_meaning.specs.Values.count_of Rattle.star_meaning.specs.Values.take_item Rattle.star_meaning.specs.Values.iterate Rattle.star_meaning.specs.Values.leave Rattle.star_meaning.specs.Values.is_true Rattle.star_meaning.specs.Values.equal Rattle.star_meaning.specs.Values.compare Rattle.star_meaning.specs.Values.check_key Rattle.star_meaning.specs.Values.repr Rattle.star_meaning.specs.Values.str Rattle.star_meaning.specs.Values.guard Rattle.star_meaning.specs.Values.change Rattle.star_meaning.specs.Variables.read_name Rattle.star_meaning.specs.Variables.bind_name Rattle.star_meaning.specs.Variables.new_frame Rattle.star_store.specs.Text.text Rattle.star_store.specs.Equal.same Rattle.star_store.specs.Order.order Rattle.star_store.specs.Key.check Rattle.star_store.specs.Key.is_key Rattle.star_store.specs.Key.same_key
+unfolding out-Form out-Expression out-Target out-Argument out-Clause out-Parameter denote.Hole.Carrier.out denote.Hole.Carrier.shown denote.Hole.Carrier.hidden digits Rattle.star_meaning.specs.Arguments.given Rattle.star_meaning.specs.Arguments.name_key Rattle.star_meaning.specs.Binding.bound_to Rattle.star_meaning.specs.Binding.build_arguments Rattle.star_meaning.specs.BuiltIns.call_built_in Rattle.star_meaning.specs.Calls.callee Rattle.star_meaning.specs.Calls.activate Rattle.star_meaning.specs.Calls.deactivate Rattle.star_meaning.specs.ListMethods.extend Rattle.star_meaning.specs.Attributes.attribute Rattle.star_meaning.specs.Methods.call_method Rattle.star_meaning.specs.Module.meaning Rattle.star_meaning.specs.Operators.operate Rattle.star_meaning.specs.Operators.prefix Rattle.star_meaning.specs.Operators.comparison Rattle.star_meaning.specs.Pairs.pairs_of Rattle.star_meaning.specs.Pairs.put_pairs Rattle.star_meaning.specs.Pairs.dict_of Rattle.star_meaning.specs.Pairs.update_with Rattle.star_meaning.specs.Run.pay Rattle.star_meaning.specs.Run.make Rattle.star_meaning.specs.Run.build Rattle.star_meaning.specs.Run.add_said Rattle.star_meaning.specs.Subscript.index Rattle.star_meaning.specs.Subscript.put_entry Rattle.star_meaning.specs.Subscript.set_index Rattle.star_meaning.specs.Subscript.slice Rattle.star_meaning.specs.Values.count_of Rattle.star_meaning.specs.Values.take_item Rattle.star_meaning.specs.Values.iterate Rattle.star_meaning.specs.Values.leave Rattle.star_meaning.specs.Values.is_true Rattle.star_meaning.specs.Values.equal Rattle.star_meaning.specs.Values.compare Rattle.star_meaning.specs.Values.check_key Rattle.star_meaning.specs.Values.repr Rattle.star_meaning.specs.Values.str Rattle.star_meaning.specs.Values.guard Rattle.star_meaning.specs.Values.change Rattle.star_meaning.specs.Variables.read_name Rattle.star_meaning.specs.Variables.bind_name Rattle.star_meaning.specs.Variables.new_frame Rattle.star_store.specs.Text.text Rattle.star_store.specs.Equal.same Rattle.star_store.specs.Order.order Rattle.star_store.specs.Key.check Rattle.star_store.specs.Key.is_key Rattle.star_store.specs.Key.same_key
 loaded_there = (refl, refl, refl)
 
 abbrev read_before_the_load_prog0 : List Statement
@@ -96,7 +96,7 @@ read_before_the_load_m0 = over read_before_the_load_m1 (102, 1) read_before_the_
 
 -- a: x = k ⏎ load(":b.star", "k"); b: k = 1
 pub read_before_the_load : (shown read_before_the_load_m1 ≡ Good [] [] (((107 ∷ []), (49 ∷ [])) ∷ []) ([])) × (shown read_before_the_load_m0 ≡ Stopped (record { code = code.Unbound; line = 1 }) ([]))
-unfolding out-Form out-Expression out-Target out-Argument out-Clause out-Parameter denote.Hole.Carrier.out denote.Hole.Carrier.shown denote.Hole.Carrier.hidden digits Rattle.star_meaning.specs.Arguments.given Rattle.star_meaning.specs.Arguments.name_key Rattle.star_meaning.specs.Binding.bound_to Rattle.star_meaning.specs.Binding.build_arguments Rattle.star_meaning.specs.BuiltIns.call_built_in Rattle.star_meaning.specs.Calls.callee Rattle.star_meaning.specs.Calls.activate Rattle.star_meaning.specs.Calls.deactivate Rattle.star_meaning.specs.ListMethods.extend Rattle.star_meaning.specs.Attributes.attribute Rattle.star_meaning.specs.Methods.call_method Rattle.star_meaning.specs.Module.meaning Rattle.star_meaning.specs.Operators.operate Rattle.star_meaning.specs.Operators.prefix Rattle.star_meaning.specs.Operators.comparison Rattle.star_meaning.specs.Pairs.pairs_of Rattle.star_meaning.specs.Pairs.put_pairs Rattle.star_meaning.specs.Pairs.dict_of Rattle.star_meaning.specs.Pairs.update_with Rattle.star_meaning.specs.Run.pay Rattle.star_meaning.specs.Run.make Rattle.star_meaning.specs.Run.build Rattle.star_meaning.specs.Run.add_line Rattle.star_meaning.specs.Subscript.index Rattle.star_meaning.specs.Subscript.put_entry Rattle.star_meaning.specs.Subscript.set_index Rattle.star_meaning.specs.Subscript.slice Rattle.star_meaning.specs.Values.count_of Rattle.star_meaning.specs.Values.take_item Rattle.star_meaning.specs.Values.iterate Rattle.star_meaning.specs.Values.leave Rattle.star_meaning.specs.Values.is_true Rattle.star_meaning.specs.Values.equal Rattle.star_meaning.specs.Values.compare Rattle.star_meaning.specs.Values.check_key Rattle.star_meaning.specs.Values.repr Rattle.star_meaning.specs.Values.str Rattle.star_meaning.specs.Values.guard Rattle.star_meaning.specs.Values.change Rattle.star_meaning.specs.Variables.read_name Rattle.star_meaning.specs.Variables.bind_name Rattle.star_meaning.specs.Variables.new_frame Rattle.star_store.specs.Text.text Rattle.star_store.specs.Equal.same Rattle.star_store.specs.Order.order Rattle.star_store.specs.Key.check Rattle.star_store.specs.Key.is_key Rattle.star_store.specs.Key.same_key
+unfolding out-Form out-Expression out-Target out-Argument out-Clause out-Parameter denote.Hole.Carrier.out denote.Hole.Carrier.shown denote.Hole.Carrier.hidden digits Rattle.star_meaning.specs.Arguments.given Rattle.star_meaning.specs.Arguments.name_key Rattle.star_meaning.specs.Binding.bound_to Rattle.star_meaning.specs.Binding.build_arguments Rattle.star_meaning.specs.BuiltIns.call_built_in Rattle.star_meaning.specs.Calls.callee Rattle.star_meaning.specs.Calls.activate Rattle.star_meaning.specs.Calls.deactivate Rattle.star_meaning.specs.ListMethods.extend Rattle.star_meaning.specs.Attributes.attribute Rattle.star_meaning.specs.Methods.call_method Rattle.star_meaning.specs.Module.meaning Rattle.star_meaning.specs.Operators.operate Rattle.star_meaning.specs.Operators.prefix Rattle.star_meaning.specs.Operators.comparison Rattle.star_meaning.specs.Pairs.pairs_of Rattle.star_meaning.specs.Pairs.put_pairs Rattle.star_meaning.specs.Pairs.dict_of Rattle.star_meaning.specs.Pairs.update_with Rattle.star_meaning.specs.Run.pay Rattle.star_meaning.specs.Run.make Rattle.star_meaning.specs.Run.build Rattle.star_meaning.specs.Run.add_said Rattle.star_meaning.specs.Subscript.index Rattle.star_meaning.specs.Subscript.put_entry Rattle.star_meaning.specs.Subscript.set_index Rattle.star_meaning.specs.Subscript.slice Rattle.star_meaning.specs.Values.count_of Rattle.star_meaning.specs.Values.take_item Rattle.star_meaning.specs.Values.iterate Rattle.star_meaning.specs.Values.leave Rattle.star_meaning.specs.Values.is_true Rattle.star_meaning.specs.Values.equal Rattle.star_meaning.specs.Values.compare Rattle.star_meaning.specs.Values.check_key Rattle.star_meaning.specs.Values.repr Rattle.star_meaning.specs.Values.str Rattle.star_meaning.specs.Values.guard Rattle.star_meaning.specs.Values.change Rattle.star_meaning.specs.Variables.read_name Rattle.star_meaning.specs.Variables.bind_name Rattle.star_meaning.specs.Variables.new_frame Rattle.star_store.specs.Text.text Rattle.star_store.specs.Equal.same Rattle.star_store.specs.Order.order Rattle.star_store.specs.Key.check Rattle.star_store.specs.Key.is_key Rattle.star_store.specs.Key.same_key
 read_before_the_load = (refl, refl)
 
 abbrev two_names_prog0 : List Statement
@@ -116,5 +116,5 @@ two_names_m0 = over two_names_m1 (101, 1) two_names_outs 0 6 two_names_prog0
 
 -- a: load(":b.star", "k", j = "k") ⏎ x = j; b: k = 1
 pub two_names : (shown two_names_m1 ≡ Good [] [] (((107 ∷ []), (49 ∷ [])) ∷ []) ([])) × (shown two_names_m0 ≡ Good [] [] (((120 ∷ []), (49 ∷ [])) ∷ []) ([]))
-unfolding out-Form out-Expression out-Target out-Argument out-Clause out-Parameter denote.Hole.Carrier.out denote.Hole.Carrier.shown denote.Hole.Carrier.hidden digits Rattle.star_meaning.specs.Arguments.given Rattle.star_meaning.specs.Arguments.name_key Rattle.star_meaning.specs.Binding.bound_to Rattle.star_meaning.specs.Binding.build_arguments Rattle.star_meaning.specs.BuiltIns.call_built_in Rattle.star_meaning.specs.Calls.callee Rattle.star_meaning.specs.Calls.activate Rattle.star_meaning.specs.Calls.deactivate Rattle.star_meaning.specs.ListMethods.extend Rattle.star_meaning.specs.Attributes.attribute Rattle.star_meaning.specs.Methods.call_method Rattle.star_meaning.specs.Module.meaning Rattle.star_meaning.specs.Operators.operate Rattle.star_meaning.specs.Operators.prefix Rattle.star_meaning.specs.Operators.comparison Rattle.star_meaning.specs.Pairs.pairs_of Rattle.star_meaning.specs.Pairs.put_pairs Rattle.star_meaning.specs.Pairs.dict_of Rattle.star_meaning.specs.Pairs.update_with Rattle.star_meaning.specs.Run.pay Rattle.star_meaning.specs.Run.make Rattle.star_meaning.specs.Run.build Rattle.star_meaning.specs.Run.add_line Rattle.star_meaning.specs.Subscript.index Rattle.star_meaning.specs.Subscript.put_entry Rattle.star_meaning.specs.Subscript.set_index Rattle.star_meaning.specs.Subscript.slice Rattle.star_meaning.specs.Values.count_of Rattle.star_meaning.specs.Values.take_item Rattle.star_meaning.specs.Values.iterate Rattle.star_meaning.specs.Values.leave Rattle.star_meaning.specs.Values.is_true Rattle.star_meaning.specs.Values.equal Rattle.star_meaning.specs.Values.compare Rattle.star_meaning.specs.Values.check_key Rattle.star_meaning.specs.Values.repr Rattle.star_meaning.specs.Values.str Rattle.star_meaning.specs.Values.guard Rattle.star_meaning.specs.Values.change Rattle.star_meaning.specs.Variables.read_name Rattle.star_meaning.specs.Variables.bind_name Rattle.star_meaning.specs.Variables.new_frame Rattle.star_store.specs.Text.text Rattle.star_store.specs.Equal.same Rattle.star_store.specs.Order.order Rattle.star_store.specs.Key.check Rattle.star_store.specs.Key.is_key Rattle.star_store.specs.Key.same_key
+unfolding out-Form out-Expression out-Target out-Argument out-Clause out-Parameter denote.Hole.Carrier.out denote.Hole.Carrier.shown denote.Hole.Carrier.hidden digits Rattle.star_meaning.specs.Arguments.given Rattle.star_meaning.specs.Arguments.name_key Rattle.star_meaning.specs.Binding.bound_to Rattle.star_meaning.specs.Binding.build_arguments Rattle.star_meaning.specs.BuiltIns.call_built_in Rattle.star_meaning.specs.Calls.callee Rattle.star_meaning.specs.Calls.activate Rattle.star_meaning.specs.Calls.deactivate Rattle.star_meaning.specs.ListMethods.extend Rattle.star_meaning.specs.Attributes.attribute Rattle.star_meaning.specs.Methods.call_method Rattle.star_meaning.specs.Module.meaning Rattle.star_meaning.specs.Operators.operate Rattle.star_meaning.specs.Operators.prefix Rattle.star_meaning.specs.Operators.comparison Rattle.star_meaning.specs.Pairs.pairs_of Rattle.star_meaning.specs.Pairs.put_pairs Rattle.star_meaning.specs.Pairs.dict_of Rattle.star_meaning.specs.Pairs.update_with Rattle.star_meaning.specs.Run.pay Rattle.star_meaning.specs.Run.make Rattle.star_meaning.specs.Run.build Rattle.star_meaning.specs.Run.add_said Rattle.star_meaning.specs.Subscript.index Rattle.star_meaning.specs.Subscript.put_entry Rattle.star_meaning.specs.Subscript.set_index Rattle.star_meaning.specs.Subscript.slice Rattle.star_meaning.specs.Values.count_of Rattle.star_meaning.specs.Values.take_item Rattle.star_meaning.specs.Values.iterate Rattle.star_meaning.specs.Values.leave Rattle.star_meaning.specs.Values.is_true Rattle.star_meaning.specs.Values.equal Rattle.star_meaning.specs.Values.compare Rattle.star_meaning.specs.Values.check_key Rattle.star_meaning.specs.Values.repr Rattle.star_meaning.specs.Values.str Rattle.star_meaning.specs.Values.guard Rattle.star_meaning.specs.Values.change Rattle.star_meaning.specs.Variables.read_name Rattle.star_meaning.specs.Variables.bind_name Rattle.star_meaning.specs.Variables.new_frame Rattle.star_store.specs.Text.text Rattle.star_store.specs.Equal.same Rattle.star_store.specs.Order.order Rattle.star_store.specs.Key.check Rattle.star_store.specs.Key.is_key Rattle.star_store.specs.Key.same_key
 two_names = (refl, refl)

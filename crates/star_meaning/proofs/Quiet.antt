@@ -17,7 +17,8 @@ use Rattle.star_store.specs.Spend.{Spend, Spent, Enough, Lacks}
 use Rattle.star_store.specs.Write.{allowed, made_if, in_store, cell_at}
 use Rattle.star_meaning.specs.declared.fault.FaultCode.{FaultCode}
 use Rattle.star_meaning.specs.declared.fault.FaultCode.TheVariants as code
-use Rattle.star_meaning.specs.Run.{State, Outcome, Done, Action, ◌>>=◌, give, fail, pay, check, found, settled, visiting, seeing, storing, make, build, add_line}
+use Rattle.star_meaning.specs.declared.said.Said.{Said}
+use Rattle.star_meaning.specs.Run.{State, Outcome, Done, Action, ◌>>=◌, give, fail, pay, check, found, settled, visiting, seeing, storing, make, build, add_said}
 use Rattle.star_meaning.specs.Program.{Setting}
 use Rattle.star_meaning.specs.Values.{written, change, iterate, leave, count_of}
 use Rattle.star_meaning.specs.Laws.{KeepsFrame, KeepsKind}
@@ -44,7 +45,7 @@ pub frame_same : (f : Frame) → KeepsFrame f f
 frame_same f = record { file = refl; block = refl; parent = refl; slots = refl }
 
 -- the same store
-pub follows_same : (s : State) (active : List (ℕ × ℕ)) (steps : ℕ) (lines : List (List ℕ)) → Follows s (record { store = s.store; active = active; steps = steps; lines = lines })
+pub follows_same : (s : State) (active : List (ℕ × ℕ)) (steps : ℕ) (lines : List Said) → Follows s (record { store = s.store; active = active; steps = steps; lines = lines })
 follows_same s active steps lines = record { home = refl; frames = λ at f h. (f, h, frame_same f); functions = λ at f h. h }
 
 pub follows_on : (s t u : State) → Follows s t → Follows t u → Follows s u
@@ -178,9 +179,9 @@ settled_follows line s (Lacks f left) = tt
 pub keeps_visiting : {A : Type 0} (line : ℕ) (f : State → Spend A) → Keeps (visiting line f)
 keeps_visiting line f = record { holds = λ s. settled_follows line s (f s s.steps) }
 
-pub keeps_add_line : (bytes : List ℕ) → Keeps (add_line bytes)
-unfolding add_line
-keeps_add_line bytes = record { holds = λ s. follows_same s s.active s.steps (s.lines ++ bytes ∷ []) }
+pub keeps_add_said : (x : Said) → Keeps (add_said x)
+unfolding add_said
+keeps_add_said x = record { holds = λ s. follows_same s s.active s.steps (s.lines ++ x ∷ []) }
 
 pub keeps_activate : (f : Function) → Keeps (activate f)
 unfolding activate

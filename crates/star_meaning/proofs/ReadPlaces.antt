@@ -1,8 +1,9 @@
 -- A name that is read, or bound, by its place is read and bound as by its name, in every chain of frames that fits the
 -- blocks around it.
-use Rattle.std.proofs.Common.{◌≡◌, ◌≤◌, ◌<◌, ℕ, zero, suc, ◌+◌, Bool, true, false, not, ◌&&◌, List, [], ◌∷◌, Option, Some, None, length, refl, ap, sym, ◌∙◌, subst, arith, if◌then◌else◌, nat_eq, ◌||◌, map}
+use Rattle.std.proofs.Common.{◌≡◌, ◌≤◌, ◌<◌, ℕ, zero, suc, ◌+◌, Bool, true, false, not, ◌&&◌, List, [], ◌∷◌, ◌++◌, Option, Some, None, length, refl, ap, sym, ◌∙◌, subst, arith, if◌then◌else◌, nat_eq, ◌||◌, map}
 use Rattle.std.specs.Prelude.{slice_get}
 use Rattle.std.specs.Option.{option_and_then}
+use Rattle.std.proofs.lemmas.List.{map-append}
 use Rattle.std.proofs.lemmas.List.Quantifiers.{position-Some}
 use Rattle.std.proofs.lemmas.Option.{slice_get-get_or}
 use Rattle.star_store.specs.declared.values.Value.{Value}
@@ -11,12 +12,13 @@ use Rattle.star_store.specs.declared.values.Frame.{Frame}
 use Rattle.star_store.specs.Store.{global_of}
 use Rattle.star_dialect.specs.declared.Dialect.{Dialect}
 use Rattle.star_dialect.specs.declared.Dialect.TheVariants as dialect
+use Rattle.star_dialect.specs.declared.Language.{Language}
 use Rattle.star_scope.specs.declared.spot.Spot.{Spot}
 use Rattle.star_scope.specs.declared.spot.Spot.TheVariants as spot
 use Rattle.star_outline.specs.Names.{Names, same_name, slot_of, has_name}
 use Rattle.star_outline.specs.declared.blocks.Block.{Block}
 use Rattle.star_outline.specs.Outlines.{names_in}
-use Rattle.star_scope.specs.Places.{IsPlaced, Outer, chain_length, or_further, spot_in, outside_spot, outermost_names}
+use Rattle.star_scope.specs.Places.{IsPlaced, Outer, chain_length, or_further, spot_in, outside_spot, outermost_names, own_names}
 use Rattle.star_scope.specs.Uses.{Named}
 use Rattle.star_tree.specs.declared.tree.Name.{Name}
 use Rattle.star_scope.specs.Places as scope
@@ -24,7 +26,7 @@ use Rattle.star_meaning.specs.declared.fault.FaultCode.TheVariants as code
 use Rattle.star_meaning.specs.declared.site.Site.{Site}
 use Rattle.star_meaning.specs.Run.{State, found}
 use Rattle.star_meaning.specs.Program.{Setting, names_of, blocks_of, published_of, seen}
-use Rattle.star_meaning.specs.Variables.{frame_of, in_frame, bind_at, bind_name, else_in, nearest, keyword_slot, read_name, read_found, outside, outside_prelude, prelude_has, outermost}
+use Rattle.star_meaning.specs.Variables.{frame_of, in_frame, bind_at, bind_name, else_in, nearest, keyword_slot, read_name, read_found, outside, outside_prelude, own_values, prelude_has, outermost, recorded_from}
 use Rattle.star_meaning.specs.Places.{Tables, SpotsMeanNames, bind_spot, frame_above, own_spot, read_spot, slot_in, joined, at_spot, outer_names, outer_at, FitsBlock, FitsChain}
 
 -- the frame that a value leads to
@@ -87,36 +89,46 @@ no_global_in [] name h = refl
 no_global_in (g ∷ gs) name h = neither (same_name g.0 name) (has_name (map (λ g. g.0) gs) name) g.1 (global_of name gs) (ap (λ b. b || has_name (map (λ g. g.0) gs) name) (swap_names g.0 name) ∙ h) (no_global_in gs name)
 
 -- a name that the outermost block does not have has no value there
-outermost_is : (d : Dialect) → map (λ g. g.0) (outermost d) ≡ outermost_names d
-outermost_is dialect.Core = refl
-outermost_is dialect.Extended = refl
+own_is : (d : Dialect) → map (λ g. g.0) (own_values d) ≡ own_names d
+own_is dialect.Core = refl
+own_is dialect.Extended = refl
 
-no_global : (d : Dialect) (name : List ℕ) → has_name (outermost_names d) name ≡ false → global_of name (outermost d) ≡ None
-no_global d name h = no_global_in (outermost d) name (ap (λ ns. has_name ns name) (outermost_is d) ∙ h)
+recorded_is : (i : ℕ) (ns : List (List ℕ)) → map (λ g. g.0) (recorded_from i ns) ≡ ns
+recorded_is i [] = refl
+recorded_is i (n ∷ ns) = ap (λ ms. n ∷ ms) (recorded_is (i + 1) ns)
 
-at_outermost : (w : Setting) (s : State) (p : Site) (name : List ℕ) (b : Bool) → has_name (outermost_names w.dialect) name ≡ b
-    → at_spot w s p name (if b then Some spot.Outermost else None) ≡ global_of name (outermost w.dialect)
+outermost_is : (l : Language) → map (λ g. g.0) (outermost l) ≡ outermost_names l
+outermost_is l =
+    map-append (λ (g : List ℕ × Value). g.0) (own_values l.dialect) (recorded_from 0 l.recorded)
+    ∙ ap (λ ns. ns ++ map (λ g. g.0) (recorded_from 0 l.recorded)) (own_is l.dialect)
+    ∙ ap (λ ns. own_names l.dialect ++ ns) (recorded_is 0 l.recorded)
+
+no_global : (l : Language) (name : List ℕ) → has_name (outermost_names l) name ≡ false → global_of name (outermost l) ≡ None
+no_global l name h = no_global_in (outermost l) name (ap (λ ns. has_name ns name) (outermost_is l) ∙ h)
+
+at_outermost : (w : Setting) (s : State) (p : Site) (name : List ℕ) (b : Bool) → has_name (outermost_names w.language) name ≡ b
+    → at_spot w s p name (if b then Some spot.Outermost else None) ≡ global_of name (outermost w.language)
 at_outermost w s p name true h = refl
-at_outermost w s p name false h = sym (no_global w.dialect name h)
+at_outermost w s p name false h = sym (no_global w.language name h)
 
-at_outermost_now : (w : Setting) (s : State) (p : Site) (name : List ℕ) → at_spot w s p name (if has_name (outermost_names w.dialect) name then Some spot.Outermost else None) ≡ global_of name (outermost w.dialect)
-at_outermost_now w s p name = at_outermost w s p name (has_name (outermost_names w.dialect) name) refl
+at_outermost_now : (w : Setting) (s : State) (p : Site) (name : List ℕ) → at_spot w s p name (if has_name (outermost_names w.language) name then Some spot.Outermost else None) ≡ global_of name (outermost w.language)
+at_outermost_now w s p name = at_outermost w s p name (has_name (outermost_names w.language) name) refl
 
 -- the prelude's names, with its published values
 in_prelude : (w : Setting) (s : State) (p : Site) (name : List ℕ) (q : ℕ) (b : Bool) → w.prelude ≡ Some q
-    → (if b then found code.Unbound p.line (option_and_then (λ x. global_of name x.globals) (published_of w q)) else outside_prelude w.dialect p.line name)
-    ≡ found code.Unbound p.line (at_spot w s p name (if b then Some spot.Prelude else if has_name (outermost_names w.dialect) name then Some spot.Outermost else None))
+    → (if b then found code.Unbound p.line (option_and_then (λ x. global_of name x.globals) (published_of w q)) else outside_prelude w.language p.line name)
+    ≡ found code.Unbound p.line (at_spot w s p name (if b then Some spot.Prelude else if has_name (outermost_names w.language) name then Some spot.Outermost else None))
 in_prelude w s p name q true e = ap (λ o. found code.Unbound p.line (option_and_then (λ x. global_of name x.globals) (option_and_then (published_of w) o))) (sym e)
 in_prelude w s p name q false e = ap (found code.Unbound p.line) (sym (at_outermost_now w s p name))
 
 outside_own : (w : Setting) (s : State) (p : Site) (name : List ℕ) (q : ℕ) (own : Bool) → w.prelude ≡ Some q
-    → (if not own && prelude_has w name q then found code.Unbound p.line (option_and_then (λ x. global_of name x.globals) (published_of w q)) else outside_prelude w.dialect p.line name)
-    ≡ found code.Unbound p.line (at_spot w s p name (outside_spot (record { names = if own then None else Some (names_of w q 0); dialect = w.dialect }) name))
+    → (if not own && prelude_has w name q then found code.Unbound p.line (option_and_then (λ x. global_of name x.globals) (published_of w q)) else outside_prelude w.language p.line name)
+    ≡ found code.Unbound p.line (at_spot w s p name (outside_spot (record { names = if own then None else Some (names_of w q 0); language = w.language }) name))
 outside_own w s p name q true e = ap (found code.Unbound p.line) (sym (at_outermost_now w s p name))
 outside_own w s p name q false e = in_prelude w s p name q (prelude_has w name q) e
 
 outside_by : (w : Setting) (s : State) (p : Site) (name : List ℕ) (o : Option ℕ) → w.prelude ≡ o
-    → outside w o p.file p.line name ≡ found code.Unbound p.line (at_spot w s p name (outside_spot (record { names = outer_names w p.file o; dialect = w.dialect }) name))
+    → outside w o p.file p.line name ≡ found code.Unbound p.line (at_spot w s p name (outside_spot (record { names = outer_names w p.file o; language = w.language }) name))
 outside_by w s p name None e = ap (found code.Unbound p.line) (sym (at_outermost_now w s p name))
 outside_by w s p name (Some q) e = outside_own w s p name q (nat_eq q p.file) e
 
@@ -168,7 +180,7 @@ own_or up k (Some slot) further e h = own_above slot up k e
 
 -- a spot that is found further out is not in the innermost frame
 own_further : (blocks : List Block) (outer : Outer) (name : List ℕ) (chain : List ℕ) (up k : ℕ) → up ≡ suc k → own_spot (spot_in blocks outer name up chain) ≡ None
-own_further blocks outer name [] up k e = own_outside (scope.prelude_has outer.names name) (has_name (outermost_names outer.dialect) name)
+own_further blocks outer name [] up k e = own_outside (scope.prelude_has outer.names name) (has_name (outermost_names outer.language) name)
 own_further blocks outer name (b ∷ bs) up k e = own_or up k (slot_of name (names_in blocks b)) (spot_in blocks outer name (up + 1) bs) e (own_further blocks outer name bs (up + 1) up (omega arith))
 
 own_first : (o : Option ℕ) (further : Option Spot) → own_spot further ≡ None → own_spot (or_further 0 o further) ≡ o

@@ -60,8 +60,8 @@ outer_by w files file None o = refl
 outer_by w files file (Some prelude) o = seen_names w (trees_of files) prelude file (nat_eq prelude file) o
 
 -- what is outside of a file, with the dialect
-all_outer : (w : Setting) (files : Files) (file : ℕ) → w.outlines ≡ outlines (trees_of files) → scope.outer_for file (record { prelude = prelude_in files w.prelude; dialect = w.dialect }) ≡ outer_at w file
-all_outer w files file o = ap (λ (ns : Option Names). record { names = ns; dialect = w.dialect }) (outer_by w files file w.prelude o)
+all_outer : (w : Setting) (files : Files) (file : ℕ) → w.outlines ≡ outlines (trees_of files) → scope.outer_for file (record { prelude = prelude_in files w.prelude; language = w.language }) ≡ outer_at w file
+all_outer w files file o = ap (λ (ns : Option Names). record { names = ns; language = w.language }) (outer_by w files file w.prelude o)
 
 -- a part placed by equal spots, in equal blocks, with equal names outside
 all_placed : (s t : Spots) (a b : List Block) (m n : Outer) (ss : List Statement) → s ≡ t → a ≡ b → m ≡ n → AllPlaced s a m (uses ss) → AllPlaced t b n (uses ss)
@@ -69,16 +69,16 @@ all_placed s t a b m n ss e f g h = subst (λ x. AllPlaced t b x (uses ss)) g (s
 
 resolved_by : (files : Files) (w : Setting) (file : ℕ) (ss : List Statement) (f : PlacedFile) (p : Program) → w.outlines ≡ outlines (trees_of files) → Stands (trees_of files) file ss → file_in files file ≡ Some f → f.statements ≡ ss → placed_file p ≡ f
     → p.definitions ≡ (outline f.statements).definitions → AllDiffer (map (λ d. d.number) p.definitions)
-    → AllPlaced (spot_at p.spots) (outline f.statements).blocks (scope.outer_for file (record { prelude = prelude_in files w.prelude; dialect = w.dialect })) (uses f.statements)
+    → AllPlaced (spot_at p.spots) (outline f.statements).blocks (scope.outer_for file (record { prelude = prelude_in files w.prelude; language = w.language })) (uses f.statements)
     → IsResolved (tables_of files) w file ss
 resolved_by files w file ss f p o h there same is definitions numbers spots =
     let blocks : blocks_of w file ≡ (outline ss).blocks = blocks_by w (trees_of files) file ss o h in
     let table : spot_at p.spots ≡ spots_in (file_in files file) = ap (λ x. spot_at x.spots) is ∙ sym (ap spots_in there) in
-    let placed_ss : AllPlaced (spot_at p.spots) (outline ss).blocks (scope.outer_for file (record { prelude = prelude_in files w.prelude; dialect = w.dialect })) (uses ss) =
-    subst (λ xs. AllPlaced (spot_at p.spots) (outline xs).blocks (scope.outer_for file (record { prelude = prelude_in files w.prelude; dialect = w.dialect })) (uses xs)) same spots in
+    let placed_ss : AllPlaced (spot_at p.spots) (outline ss).blocks (scope.outer_for file (record { prelude = prelude_in files w.prelude; language = w.language })) (uses ss) =
+    subst (λ xs. AllPlaced (spot_at p.spots) (outline xs).blocks (scope.outer_for file (record { prelude = prelude_in files w.prelude; language = w.language })) (uses xs)) same spots in
     record {
       numbers = subst (λ (ds : List Definition). AllDiffer (map (λ d. d.number) ds)) (definitions ∙ ap (λ xs. (outline xs).definitions) same) numbers;
-      names = all_placed (spot_at p.spots) (spots_in (file_in files file)) (outline ss).blocks (blocks_of w file) (scope.outer_for file (record { prelude = prelude_in files w.prelude; dialect = w.dialect })) (outer_at w file) ss table (sym blocks) (all_outer w files file o) placed_ss;
+      names = all_placed (spot_at p.spots) (spots_in (file_in files file)) (outline ss).blocks (blocks_of w file) (scope.outer_for file (record { prelude = prelude_in files w.prelude; language = w.language })) (outer_at w file) ss table (sym blocks) (all_outer w files file o) placed_ss;
       blocks = λ number. ap (λ x. slots_in x number) there ∙ ap (λ xs. length (names_in (outline xs).blocks number)) same ∙ sym (ap (λ bs. length (names_in bs number)) blocks);
     }
 

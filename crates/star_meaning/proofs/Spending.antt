@@ -244,17 +244,17 @@ spends-say_cell f path v (Some (cell.Struct fs)) y4 k0 = search (spends, spends-
 spends-say_cell f path v (Some (cell.Set es)) y4 k0 = search (spends, spends-say_set) depth 14
 spends-say_cell f path v None y4 k0 = search (spends, spends-say) depth 14
 
-pub spends-say_value : (look : (Value → Option Cell)) (f : (List Value → Value → (List ℕ → Spend (List ℕ)))) (path : List Value) (a3 : Value) (a4 : List ℕ) → ((x0 : List Value) (x1 : Value) (x2 : List ℕ) → Spends (f x0 x1 x2)) → Spends (say_value look f path a3 a4)
-spends-say_value look f path value.NoneValue y4 k0 = search (spends, spends-say) depth 14
-spends-say_value look f path (value.Bool b) y4 k0 = search (spends, spends-say) depth 14
-spends-say_value look f path (value.Int n) y4 k0 = search (spends, spends-say) depth 14
-spends-say_value look f path (value.Builtin b) y4 k0 = search (spends, spends-say_parts) depth 14
-spends-say_value look f path (value.Ref h a) y4 k0 = search (spends, spends-say_cell) depth 14
+pub spends-say_value : (names : List (List ℕ)) (look : (Value → Option Cell)) (f : (List Value → Value → (List ℕ → Spend (List ℕ)))) (path : List Value) (a3 : Value) (a4 : List ℕ) → ((x0 : List Value) (x1 : Value) (x2 : List ℕ) → Spends (f x0 x1 x2)) → Spends (say_value names look f path a3 a4)
+spends-say_value names look f path value.NoneValue y4 k0 = search (spends, spends-say) depth 14
+spends-say_value names look f path (value.Bool b) y4 k0 = search (spends, spends-say) depth 14
+spends-say_value names look f path (value.Int n) y4 k0 = search (spends, spends-say) depth 14
+spends-say_value names look f path (value.Builtin b) y4 k0 = search (spends, spends-say_parts) depth 14
+spends-say_value names look f path (value.Ref h a) y4 k0 = search (spends, spends-say_cell) depth 14
 
-pub spends-text : (look : (Value → Option Cell)) (a1 : ℕ) (path : List Value) (v : Value) (a4 : List ℕ) → Spends (text look a1 path v a4)
+pub spends-text : (names : List (List ℕ)) (look : (Value → Option Cell)) (a1 : ℕ) (path : List Value) (v : Value) (a4 : List ℕ) → Spends (text names look a1 path v a4)
 unfolding text
-spends-text look zero path v y4 = search spends depth 14
-spends-text look (suc levels) path v y4 = let h1 : (z2 : List Value) (z3 : Value) (z4 : List ℕ) → Spends (text look levels z2 z3 z4) = λ z2 z3 z4. spends-text look levels z2 z3 z4 in search (spends, spends-say_value, h1) depth 14
+spends-text names look zero path v y4 = search spends depth 14
+spends-text names look (suc levels) path v y4 = let h1 : (z2 : List Value) (z3 : Value) (z4 : List ℕ) → Spends (text names look levels z2 z3 z4) = λ z2 z3 z4. spends-text names look levels z2 z3 z4 in search (spends, spends-say_value, h1) depth 14
 
 pub spends-put_place : (l : Layout) (n : ℕ) (f : (Value → (List ℕ → Spend (List ℕ)))) (xs : List Value) (i : ℕ) (a3 : List ℕ) → ((x0 : Value) (x1 : List ℕ) → Spends (f x0 x1)) → Spends (put_place l n f xs i a3)
 spends-put_place l n f xs i y3 k0 = search (spends, spends-say, spends-then_say, spends-say_item) depth 14

@@ -15,7 +15,8 @@ use Rattle.star_store.specs.Spend.{Spend, Spent, Enough, Lacks}
 use Rattle.star_store.specs.Write.{allowed, made_if, in_store, in_cell, change_cell, change_items, change_entries}
 use Rattle.star_meaning.specs.declared.fault.FaultCode.{FaultCode}
 use Rattle.star_meaning.specs.declared.fault.FaultCode.TheVariants as code
-use Rattle.star_meaning.specs.Run.{State, Outcome, Done, Failed, Action, and_then, ◌>>=◌, give, fail, pay, found, settled, visiting, seeing, storing, make, build, add_line}
+use Rattle.star_meaning.specs.declared.said.Said.{Said}
+use Rattle.star_meaning.specs.Run.{State, Outcome, Done, Failed, Action, and_then, ◌>>=◌, give, fail, pay, found, settled, visiting, seeing, storing, make, build, add_said}
 use Rattle.star_meaning.specs.Program.{Setting}
 use Rattle.star_meaning.specs.Values.{written, change, iterate, leave, count_of, count_in, content}
 use Rattle.std.proofs.lemmas.Bool.{and_parts, eqb-true}
@@ -77,7 +78,7 @@ none_there : (o : Option HeapCell) (b : HeapCell) → o ≡ None → o ≡ Some 
 none_there None b h k = cc
 none_there (Some a) b h k = cc
 
-pub stays_same : (s : State) (steps : ℕ) (lines : List (List ℕ)) → Stays s (record { store = s.store; active = s.active; steps = steps; lines = lines })
+pub stays_same : (s : State) (steps : ℕ) (lines : List Said) → Stays s (record { store = s.store; active = s.active; steps = steps; lines = lines })
 stays_same s steps lines = record { home = refl; cells = λ at a h. (a, h, cell_same a); fresh = λ at b h k. none_there _ b h k; active = refl }
 
 fresh_on : (s t u : State) → Stays s t → Stays t u → (at : ℕ) (c : HeapCell) (o : Option HeapCell) → slice_get t.store.cells at ≡ o → slice_get s.store.cells at ≡ None → slice_get u.store.cells at ≡ Some c → c.iterations ≡ 0
@@ -145,9 +146,9 @@ settled_stays line s (Lacks f left) = tt
 pub keeps_visiting : {A : Type 0} (line : ℕ) (f : State → Spend A) → Keeps (visiting line f)
 keeps_visiting line f = record { holds = λ s. settled_stays line s (f s s.steps) }
 
-pub keeps_add_line : (bytes : List ℕ) → Keeps (add_line bytes)
-unfolding add_line
-keeps_add_line bytes = record { holds = λ s. stays_same s s.steps (s.lines ++ bytes ∷ []) }
+pub keeps_add_said : (x : Said) → Keeps (add_said x)
+unfolding add_said
+keeps_add_said x = record { holds = λ s. stays_same s s.steps (s.lines ++ x ∷ []) }
 
 -- whether two places are one
 abbrev pub one_place : ℕ → ℕ → Bool

@@ -85,14 +85,14 @@ attribute_value line x (OfType m) = build line 1 (cell.Bound m x)
 -- x.m: `type` if the value has no such attribute
 unfoldable pub attribute : Setting → ℕ → Value → List ℕ → Action Value
 attribute w line x name =
-    with_content w x (λ c. found code.BadType line (attribute_in w.dialect c name)) >>= attribute_value line x
+    with_content w x (λ c. found code.BadType line (attribute_in w.language.dialect c name)) >>= attribute_value line x
 
 -- hasattr(x, name): whether there is one
 abbrev pub call_hasattr : Setting → ℕ → Arguments → Action Value
 call_hasattr w line g = do
   a ← positional line g >>= two line
   name ← want_text w line a.1
-  with_content w a.0 (λ c. give (value.Bool (is_some (attribute_in w.dialect c name))))
+  with_content w a.0 (λ c. give (value.Bool (is_some (attribute_in w.language.dialect c name))))
 
 -- getattr(x, name, [d]): the attribute, or `d` in place of `type`
 abbrev pub attribute_or : ℕ → Value → Option Value → Option Attribute → Action Value
@@ -103,7 +103,7 @@ abbrev pub call_getattr : Setting → ℕ → Arguments → Action Value
 call_getattr w line g = do
   a ← positional line g >>= two_or_three line
   name ← want_text w line a.1
-  with_content w a.0 (λ c. attribute_or line a.0 a.2 (attribute_in w.dialect c name))
+  with_content w a.0 (λ c. attribute_or line a.0 a.2 (attribute_in w.language.dialect c name))
 
 -- a name among others in byte order, each once
 abbrev pub beside : Ordering → List ℕ → List ℕ → List (List ℕ) → List (List ℕ) → List (List ℕ)
@@ -140,4 +140,4 @@ attribute_names d c = method_names d (type_name c)
 abbrev pub call_dir : Setting → ℕ → Arguments → Action Value
 call_dir w line g =
     positional line g >>= only_one line
-    >>= λ x. with_content w x (λ c. each (new_text line) (attribute_names w.dialect c)) >>= new_list line
+    >>= λ x. with_content w x (λ c. each (new_text line) (attribute_names w.language.dialect c)) >>= new_list line

@@ -14,7 +14,8 @@ use Rattle.star_store.specs.Range.{range_length}
 use Rattle.star_dialect.specs.declared.Dialect.{Dialect}
 use Rattle.star_dialect.specs.declared.Dialect.TheVariants as dialect
 use Rattle.star_meaning.specs.declared.fault.FaultCode.TheVariants as code
-use Rattle.star_meaning.specs.Run.{Action, ◌>>=◌, give, fail, pay, check, found, each, collect, until, seeing, build, add_line}
+use Rattle.star_meaning.specs.declared.said.Said.TheVariants.{Line}
+use Rattle.star_meaning.specs.Run.{Action, ◌>>=◌, give, fail, pay, check, found, each, collect, until, seeing, build, add_said}
 use Rattle.star_meaning.specs.Program.{Setting}
 use Rattle.star_meaning.specs.Values.{Content, Truth, Number, Held, content, with_content, type_name, want_int, want_text, new_int, new_text, new_tuple, new_list, count_in, count_of, take_item, take_items, take_all, is_true, compare, repr, str}
 use Rattle.star_meaning.specs.declared.given.Arguments.{Arguments}
@@ -26,9 +27,11 @@ use Rattle.star_meaning.specs.Json.{call_decode, call_encode, call_encode_indent
 use Rattle.star_meaning.specs.Pairs.{pairs_count, pairs_of, dict_of}
 use Rattle.star_meaning.specs.Orders.{by_itself, can_sort, is_before, sort_by, want_reverse}
 use Rattle.star_store.specs.Sorting.{in_order}
+use Rattle.star_meaning.specs.Recorded.{call_recorded}
 use Rattle.star_meaning.specs.SetMethods.{call_set}
 use Rattle.star_meaning.specs.Spelling.{spelled}
 use Rattle.star_meaning.specs.Structs.{call_struct}
+use Rattle.star_meaning.specs.Texts.{joined}
 
 -- abs(x)
 abbrev pub absolute : ℕ → ℤ → Action Value
@@ -95,18 +98,13 @@ abbrev pub want_separator : Setting → ℕ → Option Value → Action (List �
 want_separator w line None = give (codes " ")
 want_separator w line (Some v) = want_text w line v
 
-abbrev pub joined : List ℕ → List (List ℕ) → List ℕ
-joined by [] = []
-joined by (t ∷ []) = t
-joined by (t ∷ u ∷ ts) = t ++ by ++ joined by (u ∷ ts)
-
 abbrev pub print_line : Setting → ℕ → ℕ → Arguments → Action (Unit {0})
 print_line w levels line g = do
   a ← with_name line (codes "sep") g
   by ← want_separator w line a.1
   ts ← each (str w levels line) a.0
   _ ← pay line (1 + length (joined by ts))
-  add_line (joined by ts)
+  add_said (Line (joined by ts))
 
 abbrev pub call_print : Setting → ℕ → ℕ → Arguments → Action Value
 call_print w levels line g = print_line w levels line g >>= λ _. give value.NoneValue
@@ -150,7 +148,7 @@ int_of_dialect w line g dialect.Core = int_alone w line g
 int_of_dialect w line g dialect.Extended = int_with_base w line g
 
 abbrev pub call_int : Setting → ℕ → Arguments → Action Value
-call_int w line g = int_of_dialect w line g w.dialect
+call_int w line g = int_of_dialect w line g w.language.dialect
 
 -- len(x)
 abbrev pub length_in : Content → Option ℕ
@@ -248,7 +246,7 @@ call_sorted w levels line g = do
   n ← count_of w line it
   backwards ← want_reverse w line a.1
   xs ← take_items w line it n
-  sort_items w levels line backwards xs w.dialect
+  sort_items w levels line backwards xs w.language.dialect
 
 -- zip(*it): as many rows as the shortest has items; each row takes one item of each
 abbrev pub least : List ℕ → ℕ
@@ -301,3 +299,4 @@ call_built_in w levels line built_in.Struct g = call_struct line g
 call_built_in w levels line built_in.JsonDecode g = call_decode w levels line g
 call_built_in w levels line built_in.JsonEncode g = call_encode w levels line g
 call_built_in w levels line built_in.JsonEncodeIndent g = call_encode_indent w levels line g
+call_built_in w levels line (built_in.Recorded i) g = call_recorded w levels line i g

@@ -127,7 +127,7 @@ called_built_in w levels m p b g false = call_built_in w levels p.line b g
 
 abbrev pub called : Setting → ℕ → Semantics → Site → Callee → Arguments → Action Value
 called w levels m p (AFunction f d) g = called_plainly w levels m p (AFunction f d) g
-called w levels m p (ABuiltIn b) g = called_built_in w levels m p b g (takes_key w.dialect g)
+called w levels m p (ABuiltIn b) g = called_built_in w levels m p b g (takes_key w.language.dialect g)
 called w levels m p (AMethod b x) g = called_plainly w levels m p (AMethod b x) g
 
 -- a call: the callee, the arguments in source order, then the checks in order, then the work

@@ -82,7 +82,7 @@ converted w levels line g c k =
     field_value line g c.0 k >>= λ r. text_by w levels line c.1 r.0 >>= λ t. give (t, r.1)
 
 abbrev pub field_text : Setting → ℕ → ℕ → Arguments → List ℕ → Numbering → Action (List ℕ × Numbering)
-field_text w levels line g f k = converted w levels line g (conversion w.dialect f) k
+field_text w levels line g f k = converted w levels line g (conversion w.language.dialect f) k
 
 -- the bytes of the string from left to right, with the text that is made so far
 abbrev pub formatted : Setting → ℕ → ℕ → Arguments → List ℕ → Reading → Numbering → List ℕ → Action (List ℕ)

@@ -11,6 +11,7 @@ use Rattle.star_tree.specs.declared.tree.Statement.{Statement}
 use Rattle.star_meaning.specs.declared.fault.FaultCode.TheVariants as code
 use Rattle.star_meaning.specs.declared.site.Site.{Site}
 use Rattle.star_meaning.specs.declared.site.Flow.{Flow}
+use Rattle.star_meaning.specs.declared.said.Said.{Said}
 use Rattle.star_meaning.specs.Run.{State, Outcome, Done, Failed}
 use Rattle.star_meaning.specs.Program.{Setting}
 use Rattle.star_meaning.specs.Variables.{by_names}
@@ -21,12 +22,12 @@ pub record Grows (s t : State) : Type 0 where
   pub home : t.store.home ≡ s.store.home
   pub cells : length s.store.cells ≤ length t.store.cells
   pub steps : t.steps ≤ s.steps
-  pub lines : (more : List (List ℕ)) × (t.lines ≡ s.lines ++ more)
+  pub lines : (more : List Said) × (t.lines ≡ s.lines ++ more)
 
 -- a fault too keeps the lines that were printed before
 abbrev pub Grown : {A : Type 0} → State → Outcome A → Type 0
 Grown s (Done x t) = Grows s t
-Grown s (Failed f lines) = (more : List (List ℕ)) × (lines ≡ s.lines ++ more)
+Grown s (Failed f lines) = (more : List Said) × (lines ≡ s.lines ++ more)
 
 -- The law: so it is with every expression and every statement.
 abbrev pub RunsGrow : Type 0
@@ -66,7 +67,7 @@ pub record Kept (s t : State) : Type 0 where
       → b.iterations ≡ 0
   pub active : t.active ≡ s.active
   pub steps : t.steps ≤ s.steps
-  pub lines : (more : List (List ℕ)) × (t.lines ≡ s.lines ++ more)
+  pub lines : (more : List Said) × (t.lines ≡ s.lines ++ more)
 
 -- The law: every expression and every statement that ends well keeps this.
 abbrev pub RunsKeep : Type 0

@@ -27,6 +27,7 @@ pub mod Structs
 pub mod Spelling
 pub mod Json
 pub mod Characters
+pub mod Recorded
 pub mod BuiltIns
 pub mod Format
 pub mod ListMethods

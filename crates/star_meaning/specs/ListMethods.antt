@@ -99,7 +99,7 @@ index_in w levels line l dialect.Extended (x ∷ a ∷ b ∷ []) = index_between
 index_in w levels line l _ _ = fail code.Args line
 
 abbrev pub call_index : Setting → ℕ → ℕ → Value → Arguments → Action Value
-call_index w levels line l g = positional line g >>= index_in w levels line l w.dialect
+call_index w levels line l g = positional line g >>= index_in w levels line l w.language.dialect
 
 -- insert(i, x): the place is clamped between 0 and the length
 abbrev pub insert_place : ℕ → ℤ → ℕ

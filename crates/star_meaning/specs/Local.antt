@@ -4,7 +4,7 @@ use Rattle.std.specs.Option.{option_map, option_flatten}
 use Rattle.star_store.specs.Store.{Shelf}
 use Rattle.star_tree.specs.declared.tree.Statement.{Statement}
 use Rattle.star_outline.specs.Outlines.{Outline}
-use Rattle.star_dialect.specs.declared.Dialect.{Dialect}
+use Rattle.star_dialect.specs.declared.Language.{Language}
 use Rattle.star_dialect.specs.declared.Mode.{Mode}
 use Rattle.star_meaning.specs.Program.{Setting}
 use Rattle.star_outline.specs.Outlines.{outline}
@@ -31,20 +31,20 @@ reached (Good shelf globals texts lines) = shelf
 reached (Stopped f lines) = []
 
 -- the environment of a file's run: the trees of all files, the file of each of its load statements, the prelude's file,
--- the dialect, and the outcomes of its loads
-abbrev pub setting : ℕ → Trees → List (ℕ × ℕ) → Option ℕ → Dialect → List Local → Setting
-setting file trees loads prelude dialect outcomes =
+-- the language, and the outcomes of its loads
+abbrev pub setting : ℕ → Trees → List (ℕ × ℕ) → Option ℕ → Language → List Local → Setting
+setting file trees loads prelude language outcomes =
     record {
       home = file;
       outlines = outlines trees;
       shelf = union (map reached outcomes);
       loads = loads;
       prelude = prelude;
-      dialect = dialect;
+      language = language;
     }
 
--- the local meaning of a file in a mode: the run of its statements, in the dialect and with the steps that it has, over
+-- the local meaning of a file in a mode: the run of its statements, in the language and with the steps that it has, over
 -- all that its loads reach, and the texts of its globals
 abbrev pub local_meaning : ℕ → Trees → List (ℕ × ℕ) → Option ℕ → List Local → Mode → Local
 local_meaning file trees loads prelude outcomes mode =
-    local (setting file trees loads prelude mode.dialect outcomes) mode.steps (statements_of trees file)
+    local (setting file trees loads prelude mode.language outcomes) mode.steps (statements_of trees file)

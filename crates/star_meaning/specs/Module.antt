@@ -9,6 +9,7 @@ use Rattle.star_store.specs.Store.{Shelf, Published, put_up}
 use Rattle.star_tree.specs.declared.tree.Statement.{Statement}
 use Rattle.star_meaning.specs.declared.fault.FaultCode.TheVariants as code
 use Rattle.star_meaning.specs.declared.fault.Fault.{Fault}
+use Rattle.star_meaning.specs.declared.said.Said.{Said}
 use Rattle.star_meaning.specs.declared.site.Site.{Site}
 use Rattle.star_outline.specs.Syntax.{expression, target, position_of, form_of}
 use Rattle.star_meaning.specs.Run.{State, Action, Outcome, Done, Failed, ◌>>=◌, give, fail, pay, each, seeing}
@@ -129,11 +130,11 @@ run_file vs w levels statements = do
 abbrev pub start : Setting → ℕ → State
 start w steps = record { store = record { home = w.home; cells = [] }; active = []; steps = steps; lines = [] }
 
--- the local meaning of a file: good, with the modules that it reaches and itself, its globals, their texts, and the
--- lines printed; or a fault, with the lines printed before it
+-- the local meaning of a file: good, with the modules that it reaches and itself, its globals, their texts, and what it
+-- said, the lines printed and the calls recorded; or a fault, with what it said before it
 pub data Local : Type 0 where
-  Good : Shelf → List (List ℕ × Value) → List (List ℕ × List ℕ) → List (List ℕ) → Local
-  Stopped : Fault → List (List ℕ) → Local
+  Good : Shelf → List (List ℕ × Value) → List (List ℕ × List ℕ) → List Said → Local
+  Stopped : Fault → List Said → Local
 
 abbrev pub local_of : Setting → Outcome Ended → Local
 local_of w (Done e s) =

@@ -53,7 +53,7 @@ format_letter w levels line letter x =
     if nat_eq letter 115 then str w levels line x
     else (if nat_eq letter 114 then repr w levels line x
     else (if nat_eq letter 100 then (want_int w line x >>= λ n. repr w levels line x)
-    else letter_in w.dialect w levels line letter x))
+    else letter_in w.language.dialect w levels line letter x))
 
 -- the next value's text, and the values after it; too few are `value`
 abbrev pub next_text : Setting → ℕ → ℕ → ℕ → List Value → Action (List ℕ × List Value)
@@ -102,7 +102,7 @@ filled w levels line y Between (b ∷ bs) xs out =
     else filled w levels line y Between bs xs (out ++ b ∷ [])
 filled w levels line y Format (b ∷ bs) xs out =
     if nat_eq b 37 then filled w levels line y Between bs xs (out ++ b ∷ [])
-    else (if opens w.dialect b then filled w levels line y (Name []) bs xs out
+    else (if opens w.language.dialect b then filled w levels line y (Name []) bs xs out
     else (next_text w levels line b xs >>= λ r. filled w levels line y Between bs r.1 (out ++ r.0)))
 filled w levels line y (Name k) (b ∷ bs) xs out =
     if nat_eq b 41 then filled w levels line y (Named k) bs xs out

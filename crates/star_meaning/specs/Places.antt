@@ -49,7 +49,7 @@ abbrev pub at_spot : Setting → State → Site → List ℕ → Option Spot →
 at_spot w s p name (Some (spot.Frame up slot)) = joined (slot_in w s slot (frame_above w s up (Some p.frame)))
 at_spot w s p name (Some spot.Prelude) =
     option_and_then (λ q. global_of name q.globals) (option_and_then (published_of w) w.prelude)
-at_spot w s p name (Some spot.Outermost) = global_of name (outermost w.dialect)
+at_spot w s p name (Some spot.Outermost) = global_of name (outermost w.language)
 at_spot w s p name None = None
 
 unfoldable pub read_spot : Tables → Setting → Site → Name → Action Value
@@ -83,9 +83,9 @@ abbrev pub outer_names : Setting → ℕ → Option ℕ → Option Names
 outer_names w file None = None
 outer_names w file (Some prelude) = if nat_eq prelude file then None else Some (names_of w prelude 0)
 
--- .. with the dialect
+-- .. with the language
 abbrev pub outer_at : Setting → ℕ → Outer
-outer_at w file = record { names = outer_names w file w.prelude; dialect = w.dialect }
+outer_at w file = record { names = outer_names w file w.prelude; language = w.language }
 
 -- the tables are right for a file: no two of its definitions have one number, each name that its statements use has the
 -- right spot, and each block as many slots as names

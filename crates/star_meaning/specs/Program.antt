@@ -5,7 +5,7 @@ use Rattle.std.specs.Option.{option_and_then, option_map, option_flatten}
 use Rattle.star_store.specs.declared.values.Value.{Value}
 use Rattle.star_store.specs.declared.values.Cell.{Cell}
 use Rattle.star_store.specs.Store.{Shelf, Published, look}
-use Rattle.star_dialect.specs.declared.Dialect.{Dialect}
+use Rattle.star_dialect.specs.declared.Language.{Language}
 use Rattle.star_tree.specs.declared.tree.Name.{Name}
 use Rattle.star_outline.specs.Names.{Names}
 use Rattle.star_outline.specs.declared.blocks.Block.{Block}
@@ -15,14 +15,14 @@ use Rattle.star_meaning.specs.declared.site.Site.{Site}
 use Rattle.star_meaning.specs.Run.{State, Action}
 
 -- the environment of a run: the running file, the outlines of all files by their numbers, the published modules, the
--- file of each load statement by the statement's token, the prelude's file, and the dialect
+-- file of each load statement by the statement's token, the prelude's file, and the language
 pub record Setting : Type 0 where
   pub home : ℕ
   pub outlines : List (Option Outline)
   pub shelf : Shelf
   pub loads : List (ℕ × ℕ)
   pub prelude : Option ℕ
-  pub dialect : Dialect
+  pub language : Language
 
 -- the outline of a file
 abbrev pub outline_of : Setting → ℕ → Option Outline

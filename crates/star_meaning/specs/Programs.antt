@@ -2,7 +2,7 @@
 use Rattle.std.specs.Prelude.{◌≡◌, ℕ, List, [], ◌∷◌, map, length, Option, Some, None, slice_get}
 use Rattle.std.specs.Option.{option_map, option_flatten}
 use denote.Ref.{Bor}
-use Rattle.star_dialect.specs.declared.Dialect.{Dialect}
+use Rattle.star_dialect.specs.declared.Language.{Language}
 use Rattle.star_tree.specs.declared.tree.Statement.{Statement}
 use Rattle.star_scope.specs.declared.loads.Load.{Load}
 use Rattle.star_scope.specs.declared.program.Prelude.{Prelude}
@@ -89,15 +89,15 @@ prelude_in files prelude =
     option_map (λ n. record { file = n; names = prelude_names (option_flatten (slice_get (trees_of files) n)) }) prelude
 
 -- each file has its program: the answer of `resolve` for the file with this number, which sees this prelude or is it,
--- in a dialect
-abbrev pub ArePrograms : Files → Option ℕ → Dialect → Type 0
+-- in a language
+abbrev pub ArePrograms : Files → Option ℕ → Language → Type 0
 ArePrograms files prelude d = (file : ℕ) (f : PlacedFile) → file_in files file ≡ Some f
     → (reads : List Read) × (p : Program) × (placed_file p ≡ f)
-    × IsProgram file (record { prelude = prelude_in files prelude; dialect = d }) f.statements reads p
+    × IsProgram file (record { prelude = prelude_in files prelude; language = d }) f.statements reads p
 
 -- The law: the tables that the programs of files give are right for each of these files.
 abbrev pub ProgramsPlaceNames : Type 0
 ProgramsPlaceNames = (files : Files) (w : Setting)
     → w.outlines ≡ outlines (trees_of files)
-    → ArePrograms files w.prelude w.dialect
+    → ArePrograms files w.prelude w.language
     → (file : ℕ) (ss : List Statement) → Stands (trees_of files) file ss → IsResolved (tables_of files) w file ss

@@ -9,19 +9,20 @@ use Rattle.star_store.specs.Spend.{Spent, Enough, Lacks, Spend}
 use Rattle.star_meaning.specs.declared.fault.FaultCode.{FaultCode}
 use Rattle.star_meaning.specs.declared.fault.FaultCode.TheVariants as code
 use Rattle.star_meaning.specs.declared.fault.Fault.{Fault}
+use Rattle.star_meaning.specs.declared.said.Said.{Said}
 
 -- the state of a run: the running module's store, the definitions that are active (file and number, the innermost
--- first), the steps left, and the lines printed
+-- first), the steps left, and what it has said: the lines printed and the calls recorded
 pub record State : Type 0 where
   pub store : Store
   pub active : List (ℕ × ℕ)
   pub steps : ℕ
-  pub lines : List (List ℕ)
+  pub lines : List Said
 
--- an answer and the state after it, or a fault and the lines printed before it
+-- an answer and the state after it, or a fault and what was said before it
 pub data Outcome (A : Type 0) : Type 0 where
   Done : A → State → Outcome A
-  Failed : Fault → List (List ℕ) → Outcome A
+  Failed : Fault → List Said → Outcome A
 
 -- an action: a function from a state to an outcome
 abbrev pub Action : Type 0 → Type 0
@@ -119,6 +120,6 @@ abbrev pub until : (ℕ → Action Bool) → ℕ → ℕ → Action Bool
 until f zero i = give false
 until f (suc n) i = f i >>= λ stop. if stop then give true else until f n (i + 1)
 
--- prints a line
-unfoldable pub add_line : List ℕ → Action (Unit {0})
-add_line t = λ s. Done tt (record s { lines = s.lines ++ t ∷ [] })
+-- prints a line, or records a call
+unfoldable pub add_said : Said → Action (Unit {0})
+add_said x = λ s. Done tt (record s { lines = s.lines ++ x ∷ [] })

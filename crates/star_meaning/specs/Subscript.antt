@@ -192,7 +192,7 @@ stride_of (Some z) = z
 -- x[a:b:c]: `type` of the base, then of the parts in order; a stride of 0 is `value`
 unfoldable pub slice : Setting → ℕ → Value → Option Value → Option Value → Option Value → Action Value
 slice w line x a b c = do
-  _ ← with_content w x (λ d. check code.BadType line (has_slices w.dialect d))
+  _ ← with_content w x (λ d. check code.BadType line (has_slices w.language.dialect d))
   start ← want_part w line a
   stop ← want_part w line b
   stride ← want_part w line c

@@ -86,4 +86,4 @@ in_dialect dialect.Extended core extended = extended
 
 -- a call of a method of the core that has further arguments in the extended language: there the table's row of this name
 abbrev pub call_wider : Setting → ℕ → List ℕ → List ℕ → Arguments → Action Value → Action Value
-call_wider w line name t g core = in_dialect w.dialect core (found code.BadType line (strings.named name) >>= λ m. call_in_table w line m t g)
+call_wider w line name t g core = in_dialect w.language.dialect core (found code.BadType line (strings.named name) >>= λ m. call_in_table w line m t g)

@@ -12,8 +12,7 @@ use Rattle.star_meaning.specs.Subscript.{want_part, bound_of}
 use Rattle.star_meaning.specs.Operators.{place_between}
 use Rattle.star_meaning.specs.declared.given.Arguments.{Arguments}
 use Rattle.star_meaning.specs.Arguments.{positional, only_one, none_or_one, no_value, before_all}
-use Rattle.star_meaning.specs.BuiltIns.{joined}
-use Rattle.star_meaning.specs.Texts.{characters, without_front, without_end, is_blank, is_in, parts}
+use Rattle.star_meaning.specs.Texts.{characters, without_front, without_end, is_blank, is_in, parts, joined}
 use Rattle.star_meaning.specs.Format.{formatted, Outside, Unused}
 
 -- the bytes of the string are paid

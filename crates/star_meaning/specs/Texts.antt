@@ -65,3 +65,9 @@ parts_from by left zero part (b ∷ bs) =
 -- the parts of t between cuts at the separator
 abbrev pub parts : List ℕ → List ℕ → Option ℕ → List (List ℕ)
 parts t by left = parts_from by left 0 [] t
+
+-- texts in one, with another one between each and the next
+abbrev pub joined : List ℕ → List (List ℕ) → List ℕ
+joined by [] = []
+joined by (t ∷ []) = t
+joined by (t ∷ u ∷ ts) = t ++ by ++ joined by (u ∷ ts)

@@ -180,7 +180,7 @@ check_key w levels line k = visiting line (λ s. keys.check (seen w s) levels k)
 
 -- the text of a value
 unfoldable pub repr : Setting → ℕ → ℕ → Value → Action (List ℕ)
-repr w levels line v = visiting line (λ s. text (seen w s) levels [] v [])
+repr w levels line v = visiting line (λ s. text w.language.recorded (seen w s) levels [] v [])
 
 -- the JSON of a value, in a layout
 unfoldable pub encoded : Setting → ℕ → ℕ → Layout → Value → Action (List ℕ)

@@ -1,6 +1,6 @@
 -- Variables by their names: a frame is a finite map from the names of its block to a value, or to nothing if the name
 -- is unbound.
-use Rattle.std.specs.Prelude.{ℕ, zero, suc, nat_eq, Bool, true, false, not, ◌&&◌, List, [], ◌∷◌, ◌++◌, length, replicate, map, Option, Some, None, slice_get, if◌then◌else◌, codes}
+use Rattle.std.specs.Prelude.{ℕ, zero, suc, ◌+◌, nat_eq, Bool, true, false, not, ◌&&◌, List, [], ◌∷◌, ◌++◌, length, replicate, map, Option, Some, None, slice_get, if◌then◌else◌, codes}
 use Rattle.std.specs.List.{list_any}
 use Rattle.std.specs.Option.{option_and_then}
 use Rattle.star_store.specs.declared.values.Value.{Value}
@@ -14,6 +14,7 @@ use Rattle.star_store.specs.Names.{built_in_name}
 use Rattle.star_store.specs.Store.{bound, global_of}
 use Rattle.star_dialect.specs.declared.Dialect.{Dialect}
 use Rattle.star_dialect.specs.declared.Dialect.TheVariants as dialect
+use Rattle.star_dialect.specs.declared.Language.{Language}
 use Rattle.star_tree.specs.declared.tree.Name.{Name}
 use Rattle.star_meaning.specs.declared.fault.FaultCode.TheVariants as code
 use Rattle.star_meaning.specs.declared.site.Site.{Site}
@@ -60,11 +61,20 @@ abbrev pub built_ins : Dialect → List BuiltIn
 built_ins dialect.Core = core_built_ins
 built_ins dialect.Extended = core_built_ins ++ further_built_ins
 
--- the names of the outermost block, with their values
-abbrev pub outermost : Dialect → List (List ℕ × Value)
-outermost d =
+-- the names of the language's own in a dialect, with their values
+abbrev pub own_values : Dialect → List (List ℕ × Value)
+own_values d =
     (codes "None", value.NoneValue) ∷ (codes "True", value.Bool true) ∷ (codes "False", value.Bool false)
     ∷ map (λ b. (built_in_name b, value.Builtin b)) (built_ins d)
+
+-- recorded names, whose places are counted from a number on, each with its function
+abbrev pub recorded_from : ℕ → List (List ℕ) → List (List ℕ × Value)
+recorded_from i [] = []
+recorded_from i (n ∷ ns) = (n, value.Builtin (built_in.Recorded i)) ∷ recorded_from (i + 1) ns
+
+-- the names of the outermost block of a language, with their values
+abbrev pub outermost : Language → List (List ℕ × Value)
+outermost l = own_values l.dialect ++ recorded_from 0 l.recorded
 
 -- whether the prelude's block has a name: its file's own block binds it, and it is not private
 abbrev pub prelude_has : Setting → List ℕ → ℕ → Bool
@@ -72,15 +82,15 @@ prelude_has w name file = not (is_private name) && list_any (same_name name) (na
 
 -- the value of a name outside of the file: a name of the prelude, which may be unbound there, else one of the outermost
 -- block
-abbrev pub outside_prelude : Dialect → ℕ → List ℕ → Action Value
-outside_prelude d line name = found code.Unbound line (global_of name (outermost d))
+abbrev pub outside_prelude : Language → ℕ → List ℕ → Action Value
+outside_prelude l line name = found code.Unbound line (global_of name (outermost l))
 
 abbrev pub outside : Setting → Option ℕ → ℕ → ℕ → List ℕ → Action Value
-outside w None file line name = outside_prelude w.dialect line name
+outside w None file line name = outside_prelude w.language line name
 outside w (Some prelude) file line name =
     if not (nat_eq prelude file) && prelude_has w name prelude
     then found code.Unbound line (option_and_then (λ p. global_of name p.globals) (published_of w prelude))
-    else outside_prelude w.dialect line name
+    else outside_prelude w.language line name
 
 -- the value of a name: in the nearest frame that has it, where it may be unbound, else outside of the file
 abbrev pub read_found : Setting → Site → List ℕ → Option (Option Value) → Action Value

@@ -12,6 +12,7 @@
 //! - `Arguments` are the evaluated arguments of a call.
 //! - `Flow` is how a statement ends: it goes on, returns, breaks or continues.
 //! - `Merge` and `Relation` say what is asked of sets.
+//! - `Said` is what a run says: a printed line, or a recorded call.
 //! - `Step` and the others of `story` are the story of a fault for a person. No definition uses them.
 //!
 //! The laws are empty functions in `law`, whose contracts are the statements. Lines only grow and steps only fall, more
@@ -24,5 +25,6 @@ pub mod fault;
 pub mod given;
 pub mod law;
 pub mod merge;
+pub mod said;
 pub mod site;
 pub mod story;

@@ -60,7 +60,7 @@ loads_too before files prelude mode n loads alike text are = loads_stay before f
 one_reading : (before files : List File) (prelude : Option ℕ) (n : ℕ) (p q : Plan) → AreAlike before files prelude → text_at before n ≡ text_at files n → IsPlanOf before p → p.prelude ≡ prelude → IsPlanOf files q → q.prelude ≡ prelude → p.mode ≡ q.mode → IsReached p n → IsReached q n → read_of p n ≡ read_of q n
 one_reading before files prelude n p q alike text is at also too modes x y =
     let same : HaveSame (nat_eq n) p.prelude before files = subst (λ o. HaveSame (nat_eq n) o before files) (sym at) (alone before files prelude n alike text) in
-    one_reading_by_texts before files p q (nat_eq n) alike.ordered is also (at ∙ sym too) (ap (λ (m : Mode). m.dialect) modes) same n (itself n) x y
+    one_reading_by_texts before files p q (nat_eq n) alike.ordered is also (at ∙ sym too) (ap (λ (m : Mode). m.language) modes) same n (itself n) x y
 
 program_read : (files : List File) (block : Outside) (n : ℕ) (pr : Program) → IsReadAs files block n (read.Program pr) → IsRead files block n (Sound pr.statements.now pr.loads.items)
 program_read files block n pr (tree, parses, same, resolves) =
@@ -76,17 +76,17 @@ pub record SharesBy (c : Change) (n m : ℕ) : Type 0 where
   pub own : AreStoresOf c m stores
   pub shared : AreShared stores program.loads.items program.statements.now
 
-module _ (c : Change) (is : IsChange c) (n m : ℕ) (text : text_at c.compared.now.before n ≡ text_at c.compared.now.files n) (load_is : LoadsNow c n m) (s : SharesBy c n m) (p q : Plan) (plan_p : IsPlanOf c.compared.now.before p) (prelude_p : p.prelude ≡ c.terms.prelude) (mode_p : p.mode ≡ c.terms.mode) (at_p : IsReached p n) (plan_q : IsPlanOf c.compared.now.files q) (prelude_q : q.prelude ≡ c.terms.prelude) (mode_q : q.mode ≡ c.terms.mode) (at_q : IsReached q n) where
+module _ (c : Change) (is : IsChange c) (n m : ℕ) (text : text_at c.compared.now.before n ≡ text_at c.compared.now.files n) (load_is : LoadsNow c n m) (s : SharesBy c n m) (p q : Plan) (plan_p : IsPlanOf c.compared.now.before p) (prelude_p : p.prelude ≡ c.terms.now.prelude) (mode_p : p.mode ≡ c.terms.now.mode) (at_p : IsReached p n) (plan_q : IsPlanOf c.compared.now.files q) (prelude_q : q.prelude ≡ c.terms.now.prelude) (mode_q : q.mode ≡ c.terms.now.mode) (at_q : IsReached q n) where
   same_read : read_of p n ≡ read_of q n
-  same_read = one_reading c.compared.now.before c.compared.now.files c.terms.prelude n p q is.alike text plan_p prelude_p plan_q prelude_q (mode_p ∙ sym mode_q) at_p at_q
+  same_read = one_reading c.compared.now.before c.compared.now.files c.terms.now.prelude n p q is.alike text plan_p prelude_p plan_q prelude_q (mode_p ∙ sym mode_q) at_p at_q
 
   read_in : read_of p n ≡ Some (Sound s.program.statements.now s.program.loads.items)
   read_in =
       let row = c.reads.now in
       let less = slice_get_within row n (Some (read.Program s.program)) s.there in
-      let there : IsPrelude c.compared.now.files c.terms.prelude plan_q.prelude = subst (λ o. IsPrelude c.compared.now.files o plan_q.prelude) prelude_q plan_q.prelude_is in
-      let seen : Outside = outside plan_q.prelude q.mode.dialect in
-      let known = subst (λ (m : Mode). IsPlaceOf c.compared.now.files (outside plan_q.prelude m.dialect) n (get_or row n None)) (sym mode_q) (is.reads plan_q.prelude there n None less) in
+      let there : IsPrelude c.compared.now.files c.terms.now.prelude plan_q.prelude = subst (λ o. IsPrelude c.compared.now.files o plan_q.prelude) prelude_q plan_q.prelude_is in
+      let seen : Outside = outside plan_q.prelude q.mode.language in
+      let known = subst (λ (m : Mode). IsPlaceOf c.compared.now.files (outside plan_q.prelude m.language) n (get_or row n None)) (sym mode_q) (is.reads plan_q.prelude there n None less) in
       let place : IsPlaceOf c.compared.now.files seen n (Some (read.Program s.program)) = subst (IsPlaceOf c.compared.now.files seen n) (get_or_from_slice_get row n (Some (read.Program s.program)) None s.there) known in
       let one = (plan_q.reached n).0 at_q in
       let ordered = ordered_to c.compared.now.before c.compared.now.files is.alike.labels is.alike.ordered in
@@ -94,7 +94,7 @@ module _ (c : Change) (is : IsChange c) (n m : ℕ) (text : text_at c.compared.n
       same_read ∙ (one.1 ∙ ap Some same)
 
   loads_q : Contains (loaded q n) m
-  loads_q = subst (λ ns. Contains ns m) (loads_in_plans c.compared.now.files c.terms.prelude c.terms.mode n load_is.0 load_is.1 q plan_q prelude_q mode_q at_q) load_is.2
+  loads_q = subst (λ ns. Contains ns m) (loads_in_plans c.compared.now.files c.terms.now.prelude c.terms.now.mode n load_is.0 load_is.1 q plan_q prelude_q mode_q at_q) load_is.2
 
   loads_p : Contains (loaded p n) m
   loads_p = subst (λ r. Contains (map (λ (l : Load). l.file) (loads_in r)) m) (sym same_read) loads_q
@@ -211,13 +211,13 @@ ends_last law before files prelude mode marks alike last first n e s m o stale =
 -- ---- more marks
 
 -- the loads of an end after the change, or before it
-pub end_loads : (c : Change) → IsChange c → (n : ℕ) (e : GoodEnd) → text_at c.compared.now.before n ≡ text_at c.compared.now.files n → (slice_get c.ends.now n ≡ Some (Some e)) ⊎ (slice_get c.former.now n ≡ Some (Some e)) → AreLoadsUnder c.compared.now.files c.terms.prelude c.terms.mode n e.loads.items
+pub end_loads : (c : Change) → IsChange c → (n : ℕ) (e : GoodEnd) → text_at c.compared.now.before n ≡ text_at c.compared.now.files n → (slice_get c.ends.now n ≡ Some (Some e)) ⊎ (slice_get c.former.now n ≡ Some (Some e)) → AreLoadsUnder c.compared.now.files c.terms.now.prelude c.terms.now.mode n e.loads.items
 end_loads c is n e text at = by_cases at
     (λ h. (is.ends n e h).loads)
-    (λ h. loads_too c.compared.now.before c.compared.now.files c.terms.prelude c.terms.mode n e.loads.items is.alike text (is.former n e h).loads)
+    (λ h. loads_too c.compared.now.before c.compared.now.files c.terms.now.prelude c.terms.now.mode n e.loads.items is.alike text (is.former n e h).loads)
 
 -- of these files each is marked, or shared by the file n: so its end lasts
-pub lasts_by : (c : Change) → IsChange c → (marks : List Bool) (n : ℕ) (loads : List ℕ) → text_at c.compared.now.before n ≡ text_at c.compared.now.files n → AreLoadsUnder c.compared.now.files c.terms.prelude c.terms.mode n loads → All (IsMarkedOrShared c marks n) loads → LastsOver c marks n
+pub lasts_by : (c : Change) → IsChange c → (marks : List Bool) (n : ℕ) (loads : List ℕ) → text_at c.compared.now.before n ≡ text_at c.compared.now.files n → AreLoadsUnder c.compared.now.files c.terms.now.prelude c.terms.now.mode n loads → All (IsMarkedOrShared c marks n) loads → LastsOver c marks n
 lasts_by c is marks n loads text are all = record {
   text = text;
   loads = loads;
@@ -252,8 +252,8 @@ own_in files prelude mode n e store o has plan is at paid reached = own_in_row p
 pub stores_are : (c : Change) → IsChange c → (n : ℕ) (e f : GoodEnd) (one other : Published) → slice_get c.former.now n ≡ Some (Some e) → slice_get c.ends.now n ≡ Some (Some f) → HasStoreOf (row_of (arc_value e.body).stores) n one → HasStoreOf (row_of (arc_value f.body).stores) n other → AreStoresOf c n (record { file = n; before = one; after = other })
 stores_are c is n e f one other at too has also = record {
   file = refl;
-  before = own_in c.compared.now.before c.terms.prelude c.terms.mode n e one (is.former n e at) has;
-  after = own_in c.compared.now.files c.terms.prelude c.terms.mode n f other (is.ends n f too) also;
+  before = own_in c.compared.now.before c.terms.now.prelude c.terms.now.mode n e one (is.former n e at) has;
+  after = own_in c.compared.now.files c.terms.now.prelude c.terms.now.mode n f other (is.ends n f too) also;
 }
 
 pub one_more : (c : Change) (all : List (Option StoresView)) (n : ℕ) (o : Option StoresView) → AreAllStores c all → length all ≡ n → IfSome o (AreStoresOf c n) → AreAllStores c (all ++ o ∷ [])

@@ -14,6 +14,7 @@ use Rattle.std.specs.contracts.alloc.AllocError as refusal
 use Rattle.std.specs.contracts.impls.GlobalAllocator.TheImpl.{ghosts}
 use Rattle.star_flow.specs.contracts.search.Search as search_of
 use Rattle.star_flow.proofs.search.Search.TheSendSync as of_search
+use Rattle.star_dialect.proofs.Language.TheSendSync as of_language
 use Rattle.star_label.proofs.files.Files.TheSendSync as of_labels
 use Rattle.star_lex.proofs.token.SyntaxFault.TheSendSync as of_syntax
 use Rattle.star_reading.proofs.Closures.{captured, closure_sync}
@@ -45,10 +46,11 @@ arena_send =
 -- .. and so may readings
 pub readings_send : (κ : NamedLft) → IsSend (readings.the_row κ)
 readings_send κ =
+    let g = of_language.the_send in
     let r = read_send κ in
     let y = tree_sync in
     let f = of_syntax.the_send in
-    search (sendable, crosses) depth 40
+    search (sendable, crosses) depth 40 fits 100000
 
 abbrev numbered : RattleType
 numbered = Tuple (usize ∷ parse.the_row ∷ [])

@@ -4,7 +4,7 @@ use Rattle.std.specs.Prelude.{IfSome, slice_set}
 use Rattle.std.proofs.lemmas.Bool.{cases_order}
 use Rattle.std.proofs.lemmas.List.{get_or-set_other, get_or-set_same, length-set}
 use Rattle.std.proofs.lemmas.Option.{get_or_from_slice_get, slice_get-get_or, slice_get_within}
-use Rattle.star_dialect.specs.declared.Dialect.{Dialect}
+use Rattle.star_dialect.specs.declared.Language.{Language}
 use Rattle.star_label.specs.Files.{File, text_at}
 use Rattle.star_parser.specs.Sources.{Parses}
 use Rattle.star_scope.specs.Resolve.{Outside, outside}
@@ -79,17 +79,17 @@ all_left before files n old new labels all left = record {
 
 pub record StayBelow (before files : List File) (n : ℕ) (old new : Readings) : Type 0 where
   pub prelude : new.prelude ≡ old.prelude
-  pub dialect : new.dialect ≡ old.dialect
+  pub language : new.language ≡ old.language
   pub reads : LeftBelow before files n old.reads.all.items new.reads.all.items
   pub parses : LeftBelow before files n old.parses.items new.parses.items
 
 pub none_stay : (before files : List File) (r : Readings) → StayBelow before files 0 r r
-none_stay before files r = record { prelude = refl; dialect = refl; reads = none_left before files r.reads.all.items; parses = none_left before files r.parses.items }
+none_stay before files r = record { prelude = refl; language = refl; reads = none_left before files r.reads.all.items; parses = none_left before files r.parses.items }
 
 pub more_stay : (before files : List File) (n : ℕ) (old new : Readings) → text_at before n ≡ text_at files n → StayBelow before files n old new → StayBelow before files (n + 1) old new
 more_stay before files n old new text s = record {
   prelude = s.prelude;
-  dialect = s.dialect;
+  language = s.language;
   reads = one_stays before files n old.reads.all.items new.reads.all.items text s.reads;
   parses = one_stays before files n old.parses.items new.parses.items text s.parses;
 }
@@ -123,7 +123,7 @@ module _ (before files : List File) (labels : HaveLabels before files) where
   place_stays block n None h = tt
   place_stays block n (Some r) h = h r refl
 
-  pub known_stay : (prelude : Option ℕ) (m : Dialect) (old new : Row) → ((q : ℕ) → prelude ≡ Some q → text_at before q ≡ text_at files q) → AreLeft before files old new → AreKnown before prelude m old → AreKnown files prelude m new
+  pub known_stay : (prelude : Option ℕ) (m : Language) (old new : Row) → ((q : ℕ) → prelude ≡ Some q → text_at before q ≡ text_at files q) → AreLeft before files old new → AreKnown before prelude m old → AreKnown files prelude m new
   known_stay prelude m old new same left known = λ block is n d less. place_stays (outside block m) n (get_or new n d) (λ r e.
       let at = at_place new n d (Some r) less e in
       let was = left.there n r at in
@@ -165,8 +165,8 @@ parse_set files row k v inside is all n d h = by_cases (same_or_not n k) here ot
 
 -- ---- all readings
 
-pub readings_stay : (before files : List File) (prelude : Option ℕ) (old new : Readings) → HaveLabels before files → ((q : ℕ) → prelude ≡ Some q → text_at before q ≡ text_at files q) → old.prelude ≡ prelude → new.prelude ≡ old.prelude → new.dialect ≡ old.dialect → StayIn before files old new → AreReadings before old → AreReadings files new
-readings_stay before files prelude old new labels text was same dialects stay are = record {
-  reads = known_stay before files labels new.prelude new.dialect old.reads.all.items new.reads.all.items (λ q e. text q (sym was ∙ sym same ∙ e)) stay.reads (subst (λ p. AreKnown before p new.dialect old.reads.all.items) (sym same) (subst (λ d. AreKnown before old.prelude d old.reads.all.items) (sym dialects) are.reads));
+pub readings_stay : (before files : List File) (prelude : Option ℕ) (old new : Readings) → HaveLabels before files → ((q : ℕ) → prelude ≡ Some q → text_at before q ≡ text_at files q) → old.prelude ≡ prelude → new.prelude ≡ old.prelude → new.language ≡ old.language → StayIn before files old new → AreReadings before old → AreReadings files new
+readings_stay before files prelude old new labels text was same languages stay are = record {
+  reads = known_stay before files labels new.prelude new.language old.reads.all.items new.reads.all.items (λ q e. text q (sym was ∙ sym same ∙ e)) stay.reads (subst (λ p. AreKnown before p new.language old.reads.all.items) (sym same) (subst (λ d. AreKnown before old.prelude d old.reads.all.items) (sym languages) are.reads));
   parses = parses_stay before files old.parses.items new.parses.items stay.parses are.parses;
 }

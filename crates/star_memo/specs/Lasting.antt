@@ -101,16 +101,16 @@ HasPreludeMarked prelude marks =
 -- the files before and after a change are alike. The ends are outcomes of the files before and of the files after, and
 -- the readings are of the files after
 pub record IsChange (c : Change) : Type 0 where
-  pub alike : AreAlike c.compared.now.before c.compared.now.files c.terms.prelude
-  pub former : AreOutcomes c.compared.now.before c.terms.prelude c.terms.mode c.former.now
-  pub ends : AreOutcomes c.compared.now.files c.terms.prelude c.terms.mode c.ends.now
-  pub reads : AreKnown c.compared.now.files c.terms.prelude c.terms.mode.dialect c.reads.now
+  pub alike : AreAlike c.compared.now.before c.compared.now.files c.terms.now.prelude
+  pub former : AreOutcomes c.compared.now.before c.terms.now.prelude c.terms.now.mode c.former.now
+  pub ends : AreOutcomes c.compared.now.files c.terms.now.prelude c.terms.now.mode c.ends.now
+  pub reads : AreKnown c.compared.now.files c.terms.now.prelude c.terms.now.mode.language c.reads.now
 
 -- these are the stores of the file n before and after the change: in each run that reaches it they are its own
 pub record AreStoresOf (c : Change) (n : ℕ) (s : StoresView) : Type 0 where
   pub file : s.file ≡ n
-  pub before : InEachPlan c.compared.now.before c.terms.prelude c.terms.mode n (λ plan. IsOwn plan n s.before)
-  pub after : InEachPlan c.compared.now.files c.terms.prelude c.terms.mode n (λ plan. IsOwn plan n s.after)
+  pub before : InEachPlan c.compared.now.before c.terms.now.prelude c.terms.now.mode n (λ plan. IsOwn plan n s.before)
+  pub after : InEachPlan c.compared.now.files c.terms.now.prelude c.terms.now.mode n (λ plan. IsOwn plan n s.after)
 
 -- so it is with whatever is there for a file, by its number
 abbrev pub AreAllStores : Change → List (Option StoresView) → Type 0
@@ -119,11 +119,11 @@ AreAllStores c all = (n : ℕ) (s : StoresView) → slice_get all n ≡ Some (So
 -- the file n loads m after the change
 abbrev pub LoadsNow : Change → ℕ → ℕ → Type 0
 LoadsNow c n m =
-    (loads : List ℕ) × AreLoadsUnder c.compared.now.files c.terms.prelude c.terms.mode n loads × Contains loads m
+    (loads : List ℕ) × AreLoadsUnder c.compared.now.files c.terms.now.prelude c.terms.now.mode n loads × Contains loads m
 
 -- the file n shares what it loads of m in each run before and each run after the change
 abbrev pub SharesAcross : Change → ℕ → ℕ → Type 0
-SharesAcross c n m = SharesIn c.compared.now.before c.compared.now.files c.terms.prelude c.terms.mode n m
+SharesAcross c n m = SharesIn c.compared.now.before c.compared.now.files c.terms.now.prelude c.terms.now.mode n m
 
 -- the file m is marked, or the file n shares what it loads of m
 abbrev pub IsMarkedOrShared : Change → List Bool → ℕ → ℕ → Type 0
@@ -131,11 +131,11 @@ IsMarkedOrShared c marks n m = (is_marked marks m ≡ true) ⊎ SharesAcross c n
 
 -- the end of the file n lasts over the change, if those of the marked files do
 abbrev pub LastsOver : Change → List Bool → ℕ → Type 0
-LastsOver c marks n = Lasts c.compared.now.before c.compared.now.files c.terms.prelude c.terms.mode marks n
+LastsOver c marks n = Lasts c.compared.now.before c.compared.now.files c.terms.now.prelude c.terms.now.mode marks n
 
 -- so it is with all marked files
 abbrev pub AllLastOver : Change → List Bool → Type 0
-AllLastOver c marks = AllLast c.compared.now.before c.compared.now.files c.terms.prelude c.terms.mode marks
+AllLastOver c marks = AllLast c.compared.now.before c.compared.now.files c.terms.now.prelude c.terms.now.mode marks
 
 -- ---- ends that are added
 

@@ -1,7 +1,7 @@
 -- The results of reading files that are kept.
 use Rattle.std.specs.Prelude.{◌≡◌, ◌<◌, ℕ, List, Option, Some, IfSome, length, slice_get}
 use Rattle.star_label.specs.Files.{File, text_at}
-use Rattle.star_dialect.specs.declared.Dialect.{Dialect}
+use Rattle.star_dialect.specs.declared.Language.{Language}
 use Rattle.star_scope.specs.declared.program.Prelude.{Prelude}
 use Rattle.star_scope.specs.Resolve.{outside}
 use Rattle.star_plan.specs.Reading.{IsPrelude}
@@ -9,14 +9,14 @@ use Rattle.star_reading.specs.Parsed.{AreParsesOf}
 use Rattle.star_reading.specs.Readings.{AreReadAs, Row}
 use Rattle.star_memo.specs.declared.readings.Readings.{Readings}
 
--- whatever the names of the prelude are, the row has readings of the files that see them, in a dialect
-abbrev pub AreKnown : List File → Option ℕ → Dialect → Row → Type 0
+-- whatever the names of the prelude are, the row has readings of the files that see them, in a language
+abbrev pub AreKnown : List File → Option ℕ → Language → Row → Type 0
 AreKnown files prelude d row =
     (block : Option Prelude) → IsPrelude files prelude block → AreReadAs files (outside block d) row
 
 -- whatever is kept for a file, by its number, is the result of reading it and of parsing its text
 pub record AreReadings (files : List File) (r : Readings) : Type 0 where
-  pub reads : AreKnown files r.prelude r.dialect r.reads.all.items
+  pub reads : AreKnown files r.prelude r.language r.reads.all.items
   pub parses : AreParsesOf files r.parses.items
 
 -- the prelude, if there is one, is a file, and has the same text in both rows of files

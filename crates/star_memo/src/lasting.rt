@@ -38,7 +38,7 @@ pub struct Change<'a, 't> {
     pub former: &'a [Option<GoodEnd>],
     pub ends: &'a [Option<GoodEnd>],
     pub reads: &'a [Option<Read<'t>>],
-    pub terms: Terms,
+    pub terms: &'a Terms,
 }
 
 /// The entry at a place of a row, if there is one.
@@ -236,7 +236,7 @@ impl<'a, 't> Change<'a, 't> {
         requires stores { AreAllStores self.now stores.now }
         requires text { text_at self.now.compared.now.before n ≡ text_at self.now.compared.now.files n }
         requires loads { let c = self.now in
-            AreLoadsUnder c.compared.now.files c.terms.prelude c.terms.mode n loads.now }
+            AreLoadsUnder c.compared.now.files c.terms.now.prelude c.terms.now.mode n loads.now }
         ensures { result ≡ true → All (IsMarkedOrShared self.now marks.now n) loads.now }
     {
         for m in loads {
@@ -298,7 +298,7 @@ impl<'a, 't> Change<'a, 't> {
 
     /// Whether the prelude, if there is one, is marked.
     fn has_prelude(&self, marks: &[bool]) -> bool
-        ensures { result ≡ true → (q : ℕ) → self.now.terms.prelude ≡ Some q → is_marked marks.now q ≡ true }
+        ensures { result ≡ true → (q : ℕ) → self.now.terms.now.prelude ≡ Some q → is_marked marks.now q ≡ true }
     {
         match self.terms.prelude {
             Some(n) => is_marked(marks, n),
@@ -310,7 +310,7 @@ impl<'a, 't> Change<'a, 't> {
     pub fn lasting<R: Wait>(&self, rt: &R, alloc: Global) -> Result<Vec<bool>, AllocError>
         requires { IsChange self.now }
         ensures last { IfOk result (λ marks. AllLastOver self.now marks.items) }
-        ensures prelude { IfOk result (λ marks. HasPreludeMarked self.now.terms.prelude marks.items) }
+        ensures prelude { IfOk result (λ marks. HasPreludeMarked self.now.terms.now.prelude marks.items) }
     {
         let marks = self.marked(rt, alloc)?;
         if self.has_prelude(&marks) {

@@ -29,10 +29,30 @@ pub struct Outcomes {
 
 /// The values that the outcomes of files depend on, beside their texts: the number of the prelude, and the mode in which
 /// each file runs.
-#[derive(Clone, Copy, Debug, PartialEq, Eq)]
+#[derive(Debug, Drop)]
 pub struct Terms {
     pub prelude: Option<usize>,
     pub mode: Mode,
+}
+
+impl Terms {
+    /// The same terms. The error: an allocation failed.
+    pub fn share(&self, alloc: Global) -> Result<Terms, AllocError>
+        ensures { IfOk result (λ again. again ≡ self.now) }
+    {
+        Ok(Terms {
+            prelude: self.prelude,
+            mode: self.mode.share(alloc)?,
+        })
+    }
+
+    /// Whether these are the same terms.
+    pub fn is_same(&self, other: &Terms) -> bool
+        ensures equal { result ≡ true → self.now ≡ other.now }
+        ensures same { self.now ≡ other.now → result ≡ true }
+    {
+        self.prelude == other.prelude && self.mode.is_same(&other.mode)
+    }
 }
 
 /// Whether all files have the same texts before and after the change.
@@ -207,16 +227,16 @@ impl Outcomes {
     }
 
     /// Whether the files have the same labels, under the same terms, with the same text of the prelude.
-    fn is_for(&self, compared: &Compared<'_>, terms: Terms) -> bool
-        ensures terms { result ≡ true → self.now.terms ≡ terms }
+    fn is_for(&self, compared: &Compared<'_>, terms: &Terms) -> bool
+        ensures terms { result ≡ true → self.now.terms ≡ terms.now }
         ensures labels { result ≡ true → HaveLabels compared.now.before compared.now.files }
         ensures ordered { result ≡ true → IsOrdered compared.now.before }
         ensures prelude { let c = compared.now in result ≡ true
-            → (q : ℕ) → terms.prelude ≡ Some q → text_at c.before q ≡ text_at c.files q }
-        ensures same { compared.now.before ≡ compared.now.files → self.now.terms ≡ terms
-            → IfSome terms.prelude (λ q. q < length compared.now.files) → result ≡ true }
+            → (q : ℕ) → terms.now.prelude ≡ Some q → text_at c.before q ≡ text_at c.files q }
+        ensures same { compared.now.before ≡ compared.now.files → self.now.terms ≡ terms.now
+            → IfSome terms.now.prelude (λ q. q < length compared.now.files) → result ≡ true }
     {
-        if self.terms != terms || !compared.has_same_labels() {
+        if !self.terms.is_same(terms) || !compared.has_same_labels() {
             return false;
         }
         has_prelude(compared, terms.prelude)
@@ -248,7 +268,7 @@ impl Outcomes {
         ensures same { IfOk result (λ os. compared.now.before ≡ compared.now.files → self.terms ≡ terms
             → IfSome terms.prelude (λ q. q < length compared.now.files) → os.0.all ≡ self.all) }
     {
-        if !self.is_for(compared, terms) {
+        if !self.is_for(compared, &terms) {
             free(rt, alloc, self.all, threads);
             return Ok((Outcomes::new(alloc, terms), Vec::new(alloc)));
         }

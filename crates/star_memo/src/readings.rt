@@ -1,7 +1,7 @@
 //! The results of reading the files that the last request reached, which are kept for the next one.
 //!
 //! They borrow from trees that lie in an arena, and live no longer than it. A result stays if the labels, the prelude,
-//! its text, the dialect and the text of the file itself stay: the loads of a file are found by their labels alone.
+//! its text, the language and the text of the file itself stay: the loads of a file are found by their labels alone.
 
 ghost use Rattle.std.specs.Prelude.{◌≡◌, ◌≢◌, ◌<◌, ◌≤◌, [], ℕ, List, IfOk, IsSome, None, OnOk, Some, slice_get, slice_index_or, vec_len};
 ghost use Rattle.std.specs.Arc.{arc_value};
@@ -15,7 +15,7 @@ use crate::compared::Compared;
 use crate::outcomes::has_prelude;
 use crate::parses::{Kept, Parse, Parses};
 use crate::release::free_apart;
-use star_dialect::Dialect;
+use star_dialect::Language;
 use star_label::files::Files;
 use star_reading::parses::Parsed;
 use star_reading::reading::{Reads, Trees};
@@ -102,8 +102,8 @@ pub struct Readings<'t> {
     pub parses: Vec<Option<Parsed<'t>>>,
     /// The number of the prelude that the files see.
     pub prelude: Option<usize>,
-    /// The dialect in which they are read.
-    pub dialect: Dialect,
+    /// The language in which they are read.
+    pub language: Language,
 }
 
 /// Makes a row at least this long: none is there at the new places. The error: an allocation failed.
@@ -164,18 +164,18 @@ fn forget<T: Drop>(row: &mut Vec<Option<T>>, n: usize)
 }
 
 impl<'t> Readings<'t> {
-    /// Nothing is known of files that see this prelude, in a dialect.
-    pub fn new(alloc: Global, prelude: Option<usize>, dialect: Dialect) -> Readings<'t>
+    /// Nothing is known of files that see this prelude, in a language.
+    pub fn new(alloc: Global, prelude: Option<usize>, language: Language) -> Readings<'t>
         ensures reads { result.reads.all.items ≡ [] }
         ensures parses { result.parses.items ≡ [] }
         ensures prelude { result.prelude ≡ prelude }
-        ensures dialect { result.dialect ≡ dialect }
+        ensures language { result.language ≡ language }
     {
         Readings {
             reads: Reads::new(alloc),
             parses: Vec::new(alloc),
             prelude,
-            dialect,
+            language,
         }
     }
 
@@ -184,29 +184,29 @@ impl<'t> Readings<'t> {
         free_apart(rt, self);
     }
 
-    /// The readings that stay if files take the place of those before, and see this prelude, in a dialect: those of the
-    /// files whose texts stay, if the labels, the prelude and its text and the dialect stay; else none.
+    /// The readings that stay if files take the place of those before, and see this prelude, in a language: those of the
+    /// files whose texts stay, if the labels, the prelude and its text and the language stay; else none.
     pub fn after(
         self,
         alloc: Global,
         compared: &Compared<'_>,
         prelude: Option<usize>,
-        dialect: Dialect,
+        language: Language,
     ) -> Readings<'t>
         requires { AreReadings compared.now.before self }
         ensures prelude { result.prelude ≡ prelude }
-        ensures dialect { result.dialect ≡ dialect }
+        ensures language { result.language ≡ language }
         ensures readings { AreReadings compared.now.files result }
         ensures stays { let b = compared.now.before in let f = compared.now.files in HaveLabels b f
-            → self.entry.prelude ≡ prelude → self.entry.dialect ≡ dialect → HasPrelude b f prelude
+            → self.entry.prelude ≡ prelude → self.entry.language ≡ language → HasPrelude b f prelude
             → StayIn b f self.entry result }
     {
         if self.prelude != prelude
-            || self.dialect != dialect
+            || !self.language.is_same(&language)
             || !compared.has_same_labels()
             || !has_prelude(compared, prelude)
         {
-            return Readings::new(alloc, prelude, dialect);
+            return Readings::new(alloc, prelude, language);
         }
         let mut readings = self;
         readings.forget_changed(compared);
@@ -217,7 +217,7 @@ impl<'t> Readings<'t> {
     fn forget_changed(&mut self, compared: &Compared<'_>)
         requires { HaveLabels compared.now.before compared.now.files }
         ensures prelude { self.new.prelude ≡ self.old.prelude }
-        ensures dialect { self.new.dialect ≡ self.old.dialect }
+        ensures language { self.new.language ≡ self.old.language }
         ensures left { StayIn compared.now.before compared.now.files self.old self.new }
     {
         for n in 0..compared.count() {
@@ -241,7 +241,7 @@ impl<'t> Readings<'t> {
         ensures readings { OnOk result (AreReadings files.now self.new) }
         ensures reads { self.new.reads ≡ self.old.reads }
         ensures prelude { self.new.prelude ≡ self.old.prelude }
-        ensures dialect { self.new.dialect ≡ self.old.dialect }
+        ensures language { self.new.language ≡ self.old.language }
         ensures all { OnOk result ((n : ℕ) → Has parses.now.all.items n
             → IsSome (slice_index_or self.new.parses.items n None)) }
     {

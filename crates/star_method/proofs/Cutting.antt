@@ -7,8 +7,7 @@ use Rattle.std.proofs.lemmas.Bool.{and_right}
 use Rattle.std.proofs.lemmas.Bool.Decides.{nat_tests}
 use Rattle.std.proofs.lemmas.List.{take-append-drop}
 use Rattle.std.proofs.lemmas.Str.Pattern.{starts_text}
-use Rattle.star_meaning.specs.BuiltIns.{joined}
-use Rattle.star_meaning.specs.Texts.{may_cut, one_less, parts, parts_from}
+use Rattle.star_meaning.specs.Texts.{may_cut, one_less, parts, parts_from, joined}
 use Rattle.star_method.specs.Cuts.{IsFirstCut}
 
 -- the bytes of a separator are passed over

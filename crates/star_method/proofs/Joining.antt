@@ -1,6 +1,6 @@
 -- Strings with another one between them.
 use Rattle.std.proofs.Common.{◌≡◌, ℕ, List, [], ◌∷◌, ◌++◌, ap, sym, ◌∙◌, append_assoc, append-nil}
-use Rattle.star_meaning.specs.BuiltIns.{joined}
+use Rattle.star_meaning.specs.Texts.{joined}
 use Rattle.star_method.specs.Ends.{each_after}
 
 pub joined_is : (by u : List ℕ) (us : List (List ℕ)) → joined by (u ∷ us) ≡ u ++ each_after by us

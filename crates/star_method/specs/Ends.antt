@@ -2,14 +2,13 @@
 use Rattle.std.specs.Prelude.{ℕ, nat_eq, Bool, List, [], ◌∷◌, ◌++◌, length, map, Option, ℤ, pos}
 use Rattle.std.specs.List.{ends_with, list_any, starts_with}
 use Rattle.star_store.specs.declared.values.Value.{Value}
-use Rattle.star_meaning.specs.BuiltIns.{joined}
 use Rattle.star_meaning.specs.declared.fault.FaultCode.TheVariants as code
 use Rattle.star_meaning.specs.Run.{State, Action, and_then, found, give}
 use Rattle.star_meaning.specs.Program.{Setting}
 use Rattle.star_machine.specs.Kinds.{bytes_of}
 use Rattle.star_meaning.specs.Operators.{place_between}
 use Rattle.star_meaning.specs.TextMethods.{end_of, place_or_none, texts_of}
-use Rattle.star_meaning.specs.Texts.{lower, upper}
+use Rattle.star_meaning.specs.Texts.{lower, upper, joined}
 use Rattle.star_meaning.specs.Values.{content}
 use Rattle.star_method.specs.declared.texts.Case.{Case}
 use Rattle.star_method.specs.declared.texts.Case.TheVariants as case

@@ -1,7 +1,7 @@
 //! The methods `split` and `replace` of strings.
 
 ghost use Rattle.std.specs.Prelude.{◌≡◌, ◌<◌, IfOk, length};
-ghost use Rattle.star_meaning.specs.BuiltIns.{joined};
+ghost use Rattle.star_meaning.specs.Texts.{joined};
 ghost use Rattle.star_machine.specs.Refines.{Refines, RefinesBy};
 ghost use Rattle.star_machine.specs.Kinds.{bytes_of};
 ghost use Rattle.star_meaning.specs.Arguments.{positional};

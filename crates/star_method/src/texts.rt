@@ -6,7 +6,7 @@
 ghost use Rattle.std.specs.Prelude.{◌≡◌, ◌≤◌, ◌++◌, if◌then◌else◌, IfOk, OnOk, is_some, length, map, pos};
 ghost use Rattle.std.specs.List.{list_any};
 ghost use Rattle.star_meaning.specs.Arguments.{positional};
-ghost use Rattle.star_meaning.specs.BuiltIns.{joined};
+ghost use Rattle.star_meaning.specs.Texts.{joined};
 ghost use Rattle.star_meaning.specs.Run.{and_then};
 ghost use Rattle.star_machine.specs.Refines.{Refines, RefinesBy};
 ghost use Rattle.star_machine.specs.Kinds.{bytes_of};

@@ -7,7 +7,7 @@
 ghost use Rattle.std.specs.Prelude.{◌<◌, length};
 
 use crate::place::word_of;
-use star_dialect::Dialect;
+use star_dialect::{Dialect, Language};
 use star_label::files::Files;
 use star_lex::token::{Keyword, Kind, Token};
 use star_outline::blocks::{BlockNames, Blocks};
@@ -71,8 +71,8 @@ pub(crate) struct Source<'a> {
     /// The prelude that it sees, and its tree, if that parses.
     pub prelude: Option<usize>,
     pub seen: Option<&'a Tree>,
-    /// The dialect in which it is read.
-    pub dialect: Dialect,
+    /// The language in which it is read.
+    pub language: &'a Language,
 }
 
 /// The findings about the names of a file.
@@ -166,8 +166,11 @@ impl<'a> Source<'a> {
             self.add_bound(tree, &mut names)?;
         }
         names.extend_from_slice(&BUILT_INS)?;
-        if self.dialect == Dialect::Extended {
+        if self.language.dialect == Dialect::Extended {
             names.extend_from_slice(&FURTHER)?;
+        }
+        for name in self.language.recorded.names() {
+            names.push(name.as_str())?;
         }
         Ok(names)
     }
@@ -182,7 +185,7 @@ impl<'a> Source<'a> {
             self.file,
             self.tree,
             seen,
-            self.dialect,
+            self.language,
         ) {
             Ok(_) => Ok(None),
             Err(ScopeFault::Memory) => Err(AllocError),
@@ -243,7 +246,7 @@ impl<'a> Source<'a> {
     fn add_names(self, found: &mut Found<'a>) -> Result<(), AllocError> {
         let (words, blocks) = (self.words()?, self.blocks()?);
         let statements = self.tree.statements.as_slice();
-        let placed = resolve_names(self.alloc, &blocks, Some(&words), self.dialect, statements);
+        let placed = resolve_names(self.alloc, &blocks, Some(&words), self.language, statements);
         self.add_names_at(&without_memory(placed)?.spots, found)
     }
 

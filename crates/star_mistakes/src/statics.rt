@@ -9,7 +9,7 @@ use crate::place::{Line, text_of};
 use crate::refused::{Choices, told};
 use crate::syntax::bad_syntax;
 use crate::tokens::{bad_indent, bad_token};
-use star_dialect::Dialect;
+use star_dialect::Language;
 use star_label::files::Files;
 use star_lex::lex;
 use star_lex::token::{SyntaxFault, Token};
@@ -18,13 +18,13 @@ use star_scope::error::ScopeFault;
 use star_tree::tree::Tree;
 use std::alloc::{AllocError, Global};
 
-/// The files of a run, which of them is the prelude, and the dialect in which they are read.
+/// The files of a run, which of them is the prelude, and the language in which they are read.
 #[derive(Clone, Copy)]
 pub struct Sources<'a> {
     pub alloc: Global,
     pub files: &'a Files,
     pub prelude: Option<usize>,
-    pub dialect: Dialect,
+    pub language: &'a Language,
 }
 
 /// The mistake of a text that is nested too deeply, by this line.
@@ -111,7 +111,7 @@ fn mistakes_by<'x>(
         tree,
         prelude: sources.prelude,
         seen,
-        dialect: sources.dialect,
+        language: sources.language,
     };
     let found = source.found()?;
     let is_blind = sources.prelude.is_some() && seen.is_none();
@@ -119,13 +119,18 @@ fn mistakes_by<'x>(
 }
 
 impl<'a> Sources<'a> {
-    /// The files of a run, one of which may be the prelude, in a dialect.
-    pub fn new(alloc: Global, files: &'a Files, prelude: Option<usize>, dialect: Dialect) -> Self {
+    /// The files of a run, one of which may be the prelude, in a language.
+    pub fn new(
+        alloc: Global,
+        files: &'a Files,
+        prelude: Option<usize>,
+        language: &'a Language,
+    ) -> Self {
         Sources {
             alloc,
             files,
             prelude,
-            dialect,
+            language,
         }
     }
 

@@ -5,6 +5,7 @@ use Rattle.star_store.specs.Store.{Published, put_up}
 use Rattle.star_tree.specs.declared.tree.Statement.{Statement}
 use Rattle.star_meaning.specs.declared.fault.FaultCode.{FaultCode}
 use Rattle.star_meaning.specs.declared.fault.Fault.{Fault}
+use Rattle.star_meaning.specs.declared.said.Said.{Said}
 use Rattle.star_meaning.specs.Local.{outlines}
 use Rattle.star_meaning.specs.Module.{Ended, Local, Good, Stopped, local, local_of}
 use Rattle.star_meaning.specs.Places.{FitAfter, Stands}
@@ -25,13 +26,13 @@ use Rattle.star_module.specs.Globals.{owned}
 use Rattle.star_module.specs.Outcomes.{AreReady, IsOutcome, semantics, run_by_names, run_by_places, shown}
 
 -- the state that a run with this end left
-pub good_is : (o : run.Outcome Ended) (r : Result HeldEnded EvalError) (e : HeldEnded) (s : run.State) (frozen : Published) (texts : Vec (String Global × List ℕ) Global) (lines : Vec (List ℕ) Global) (left : ℕ)
+pub good_is : (o : run.Outcome Ended) (r : Result HeldEnded EvalError) (e : HeldEnded) (s : run.State) (frozen : Published) (texts : Vec (String Global × List ℕ) Global) (lines : Vec Said Global) (left : ℕ)
     → r ≡ Ok e → frozen ≡ record { cells = s.store.cells; globals = owned e.globals.items } → texts ≡ e.texts → lines.items ≡ s.lines → left ≡ s.steps → RefinesBy shown o r s → IsOutcome o (outcome.Good frozen texts lines left)
 good_is o r e s frozen texts lines left q f t l k h =
     let g : RefinesBy shown o (Ok e) s = subst (λ x. RefinesBy shown o x s) q h in
     subst (λ p. IsOutcome p (outcome.Good frozen texts lines left)) (sym g) (f, ap (λ x. owned x.items) t, l, k)
 
-pub fault_is : (o : run.Outcome Ended) (r : Result HeldEnded EvalError) (code : FaultCode) (line : ℕ) (s : run.State) (lines : Vec (List ℕ) Global) (remains : Remains)
+pub fault_is : (o : run.Outcome Ended) (r : Result HeldEnded EvalError) (code : FaultCode) (line : ℕ) (s : run.State) (lines : Vec Said Global) (remains : Remains)
     → r ≡ Err (Faulted code line) → lines.items ≡ s.lines → RefinesBy shown o r s → IsOutcome o (outcome.Fault code line lines remains)
 fault_is o r code line s lines remains q l h =
     let k : RefinesBy shown o (Err (Faulted code line)) s = subst (λ x. RefinesBy shown o x s) q h in

@@ -45,5 +45,5 @@ semantics w (outcome.Fault code line lines remains) = Stopped (record { code = c
 -- a file is ready to run: each file that has statements has the program that `resolve` answers for it, and each
 -- function of a published module is one of its file's definitions, in frames that fit the blocks around it
 pub record AreReady (w : World) (steps : ℕ) : Type 0 where
-  pub programs : ArePrograms w.files w.setting.prelude w.setting.dialect
+  pub programs : ArePrograms w.files w.setting.prelude w.setting.language
   pub functions : AllFit (trees_of w.files) w.setting (start w.setting steps)

@@ -15,6 +15,7 @@ use star_eval::execute::execute_each;
 use star_machine::fault::EvalError;
 use star_machine::machine::Machine;
 use star_meaning::fault::FaultCode;
+use star_meaning::said::Said;
 use star_meaning::site::Site;
 use star_meaning::story::{Step, Story};
 use star_scope::program::Program;
@@ -48,14 +49,14 @@ pub struct Remains {
     pub store: Frozen,
 }
 
-/// How the run of a file ends, with the lines that it has printed.
+/// How the run of a file ends, with what it has said: the lines printed and the calls recorded.
 #[derive(Drop)]
 pub enum Outcome {
     /// It ran to its end: its store, and each global with its text, in byte order of the names.
     Good {
         frozen: Frozen,
         shown: Vec<(String, Text)>,
-        lines: Vec<Text>,
+        lines: Vec<Said>,
         /// How many steps are left.
         left: u32,
     },
@@ -63,7 +64,7 @@ pub enum Outcome {
     Fault {
         code: FaultCode,
         line: usize,
-        lines: Vec<Text>,
+        lines: Vec<Said>,
         remains: Remains,
     },
 }

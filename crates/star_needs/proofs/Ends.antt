@@ -36,19 +36,19 @@ readings_stay files others prelude is_in same p d n r h is read =
 
 pub loads_stay : LoadsStay
 loads_stay files others prelude mode is_in same n loads h are p r is read =
-    let back = readings_stay others files prelude is_in (same_back is_in prelude files others same) p mode.dialect n r h is read in
+    let back = readings_stay others files prelude is_in (same_back is_in prelude files others same) p mode.language n r h is read in
     are p r back.0 back.1
 
 pub ordered_to : (files others : List File) → labels_of files ≡ labels_of others → IsOrdered files → IsOrdered others
 ordered_to files others labels ordered = subst (λ (ls : List (List ℕ)). IsStrictlySortedBy (slice_cmp nat_cmp) ls) labels ordered
 
-module _ (files others : List File) (p q : Plan) (is_in : ℕ → Bool) (ordered : IsOrdered files) (is : IsPlanOf files p) (also : IsPlanOf others q) (prelude : p.prelude ≡ q.prelude) (dialects : p.mode.dialect ≡ q.mode.dialect) (same : HaveSame is_in p.prelude files others) where
+module _ (files others : List File) (p q : Plan) (is_in : ℕ → Bool) (ordered : IsOrdered files) (is : IsPlanOf files p) (also : IsPlanOf others q) (prelude : p.prelude ≡ q.prelude) (languages : p.mode.language ≡ q.mode.language) (same : HaveSame is_in p.prelude files others) where
   one_read : (n : ℕ) (r s : Reading) → is_in n ≡ true → read_of p n ≡ Some r → read_of q n ≡ Some s → r ≡ s
   one_read n r s h x y =
-      let moved = readings_stay files others p.prelude is_in same is.prelude p.mode.dialect n r h is.prelude_is (is.right n r x) in
+      let moved = readings_stay files others p.prelude is_in same is.prelude p.mode.language n r h is.prelude_is (is.right n r x) in
       let preludes : is.prelude ≡ also.prelude = one_prelude others q.prelude is.prelude also.prelude (subst (λ o. IsPrelude others o is.prelude) prelude moved.0) also.prelude_is in
-      let right : IsRead others (outside also.prelude q.mode.dialect) n r = subst (λ d. IsRead others (outside also.prelude d) n r) dialects (subst (λ o. IsRead others (outside o p.mode.dialect) n r) preludes moved.1) in
-      one-reading others (outside also.prelude q.mode.dialect) n (ordered_to files others same.labels ordered) r s right (also.right n s y)
+      let right : IsRead others (outside also.prelude q.mode.language) n r = subst (λ d. IsRead others (outside also.prelude d) n r) languages (subst (λ o. IsRead others (outside o p.mode.language) n r) preludes moved.1) in
+      one-reading others (outside also.prelude q.mode.language) n (ordered_to files others same.labels ordered) r s right (also.right n s y)
 
   pub reading_by_texts : (n : ℕ) → is_in n ≡ true → IsReached p n → IsReached q n → read_of p n ≡ read_of q n
   reading_by_texts n h x y =
@@ -57,20 +57,20 @@ module _ (files others : List File) (p q : Plan) (is_in : ℕ → Bool) (ordered
       one.1 ∙ (ap Some (one_read n one.0 other.0 h one.1 other.1) ∙ sym other.1)
 
 pub one_reading_by_texts : OneReadingByTexts
-one_reading_by_texts files others p q is_in ordered is also prelude dialects same n h x y = reading_by_texts files others p q is_in ordered is also prelude dialects same n h x y
+one_reading_by_texts files others p q is_in ordered is also prelude languages same n h x y = reading_by_texts files others p q is_in ordered is also prelude languages same n h x y
 
 pub loads_for_all_roots : LoadsForAllRoots
 loads_for_all_roots files plan ordered is n reached p r prelude_is read =
     let own = (is.reached n).0 reached in
     let preludes : p ≡ is.prelude = one_prelude files plan.prelude p is.prelude prelude_is is.prelude_is in
-    let one : r ≡ own.0 = one-reading files (outside is.prelude plan.mode.dialect) n ordered r own.0 (subst (λ o. IsRead files (outside o plan.mode.dialect) n r) preludes read) (is.right n own.0 own.1) in
+    let one : r ≡ own.0 = one-reading files (outside is.prelude plan.mode.language) n ordered r own.0 (subst (λ o. IsRead files (outside o plan.mode.language) n r) preludes read) (is.right n own.0 own.1) in
     ap (λ z. map (λ l. l.file) (loads_in z)) (ap Some one ∙ sym own.1)
 
 pub loads_in_plans : LoadsInPlans
 loads_in_plans files prelude mode n loads are plan is prelude_is mode_is reached =
     let read = (is.reached n).0 reached in
     let there : IsPrelude files prelude is.prelude = subst (λ o. IsPrelude files o is.prelude) prelude_is is.prelude_is in
-    let right = subst (λ (m : Mode). IsRead files (outside is.prelude m.dialect) n read.0) mode_is (is.right n read.0 read.1) in
+    let right = subst (λ (m : Mode). IsRead files (outside is.prelude m.language) n read.0) mode_is (is.right n read.0 read.1) in
     sym (are is.prelude read.0 there right) ∙ ap (λ z. map (λ l. l.file) (loads_in z)) (sym read.1)
 
 -- ---- two plans that both reach files of the set
@@ -106,7 +106,7 @@ to_both is_in p q n r s h x y = and_all (is_in n) _ h (and_all (is_some (read_of
 
 module _ (files others : List File) (p q : Plan) (is_in : ℕ → Bool) (ordered : IsOrdered files) (is : IsPlanOf files p) (also : IsPlanOf others q) (prelude : p.prelude ≡ q.prelude) (mode : p.mode ≡ q.mode) (same : HaveSame is_in p.prelude files others) (closed : (n m : ℕ) → is_in n ≡ true → Loads (loaded p) n m → is_in m ≡ true) where
   reads_same : (n : ℕ) → InBoth is_in p q n → read_of p n ≡ read_of q n
-  reads_same n b = reading_by_texts files others p q is_in ordered is also prelude (ap (λ (m : Mode). m.dialect) mode) same n b.within ((is.reached n).1 b.one) ((also.reached n).1 b.other)
+  reads_same n b = reading_by_texts files others p q is_in ordered is also prelude (ap (λ (m : Mode). m.language) mode) same n b.within ((is.reached n).1 b.one) ((also.reached n).1 b.other)
 
   loads_in_both : (n m : ℕ) → InBoth is_in p q n → Loads (loaded p) n m → both is_in p q m ≡ true
   loads_in_both n m b step =
@@ -200,8 +200,8 @@ root_read is_in q n c =
     (from.2.0, ap (read_of (own is_in q)) same ∙ from.2.1)
 
 module _ (files others : List File) (q : Plan) (is_in : ℕ → Bool) (also : IsPlanOf others q) (same : HaveSame is_in q.prelude files others) (closed : IsClosed files q.prelude q.mode is_in) where
-  before : (n : ℕ) (r : Reading) → is_in n ≡ true → read_of q n ≡ Some r → IsPrelude files q.prelude also.prelude × IsRead files (outside also.prelude q.mode.dialect) n r
-  before n r h e = readings_stay others files q.prelude is_in (same_back is_in q.prelude files others same) also.prelude q.mode.dialect n r h also.prelude_is (also.right n r e)
+  before : (n : ℕ) (r : Reading) → is_in n ≡ true → read_of q n ≡ Some r → IsPrelude files q.prelude also.prelude × IsRead files (outside also.prelude q.mode.language) n r
+  before n r h e = readings_stay others files q.prelude is_in (same_back is_in q.prelude files others same) also.prelude q.mode.language n r h also.prelude_is (also.right n r e)
 
   load_within : (n m : ℕ) (r : Reading) → read_of (own is_in q) n ≡ Some r → Loads (loaded (own is_in q)) n m → is_in m ≡ true
   load_within n m r e step =
@@ -225,7 +225,7 @@ module _ (files others : List File) (q : Plan) (is_in : ℕ → Bool) (also : Is
       let other = (also.reached m).0 (load ((also.reached n).1 (r, is.1)) too) in
       (other.0, to_common is_in q m (load_within n m r e step) ∙ other.1)
 
-  own_right : (n : ℕ) (r : Reading) → read_of (own is_in q) n ≡ Some r → IsRead files (outside also.prelude q.mode.dialect) n r × IsReached (own is_in q) n
+  own_right : (n : ℕ) (r : Reading) → read_of (own is_in q) n ≡ Some r → IsRead files (outside also.prelude q.mode.language) n r × IsReached (own is_in q) n
   own_right n r e =
       let is = in_common is_in q n r e in
       ((before n r is.0 is.1).1, root_there is_in q n r e)

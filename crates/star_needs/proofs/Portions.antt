@@ -96,7 +96,7 @@ right files part whole placed is placed_so of sound n ms file ss there =
     let same = same_outline part whole of file ss there in
     let names : outer_names (given whole n ms) file whole.prelude ≡ outer_names (given part n ms) file part.prelude = ap (outer_names (given whole n ms) file) (sym of.prelude) ∙ outer_same part whole of sound n ms file part.prelude refl in
     let outer : outer_at (given whole n ms) file ≡ outer_at (given part n ms) file =
-    ap (λ o. let r : Outer = record { names = o; dialect = whole.mode.dialect } in r) names ∙ ap (λ (m : Mode). let r : Outer = record { names = outer_names (given part n ms) file part.prelude; dialect = m.dialect } in r) (sym of.mode) in
+    ap (λ o. let r : Outer = record { names = o; language = whole.mode.language } in r) names ∙ ap (λ (m : Mode). let r : Outer = record { names = outer_names (given part n ms) file part.prelude; language = m.language } in r) (sym of.mode) in
     record {
       numbers = r.numbers;
       names = subst (λ o. AllPlaced ((tables_of placed).spots file) (blocks_of (given part n ms) file) o (uses ss)) outer (subst (λ o. AllPlaced ((tables_of placed).spots file) (blocks_in o) (outer_at (given whole n ms) file) (uses ss)) same r.names);
@@ -130,7 +130,7 @@ parts_run_placed files part whole placed is placed_so of n ss ms e g =
     let sight : Sight (trees part) w = record { outlines = outlines (trees whole); same = λ file us h. same_outline part whole of file us h } in
     let places : run_file (by_places tables u) u most_levels ss (start w part.mode.steps) ≡ run_file (by_names w) w most_levels ss (start w part.mode.steps) = outlines_seen tables (trees part) w ss part.mode.steps refl (stands part n ss e) (right files part whole placed is placed_so of sound n ms) fit sight in
     let read = sound_read (read_of part n) ss e in
-    let same : u ≡ given whole n ms = ap (λ r. setting n (trees whole) (load_files (loads_in r)) part.prelude part.mode.dialect ms) (read.1 ∙ sym (of.reads n _ read.1)) ∙ (ap (λ o. setting n (trees whole) (load_files (loads_of whole n)) o part.mode.dialect ms) of.prelude ∙ ap (λ (m : Mode). setting n (trees whole) (load_files (loads_of whole n)) whole.prelude m.dialect ms) of.mode) in
+    let same : u ≡ given whole n ms = ap (λ r. setting n (trees whole) (load_files (loads_in r)) part.prelude part.mode.language ms) (read.1 ∙ sym (of.reads n _ read.1)) ∙ (ap (λ o. setting n (trees whole) (load_files (loads_of whole n)) o part.mode.language ms) of.prelude ∙ ap (λ (m : Mode). setting n (trees whole) (load_files (loads_of whole n)) whole.prelude m.language ms) of.mode) in
     let whole_sound : PreludeIsSound whole = λ q h. (let t = sound q (of.prelude ∙ h) in (t.0, tree_whole part whole of q t.0 t.1)) in
     let resolved : (file : ℕ) (us : List Statement) → Stands (trees whole) file us → IsResolved tables u file us = λ file us h. subst (λ z. IsResolved tables z file us) (sym same) (tables_right files whole placed is placed_so whole_sound n ms file us h) in
     let names : run_file (by_places tables u) u most_levels ss (start u part.mode.steps) ≡ run_file (by_names u) u most_levels ss (start u part.mode.steps) = (places_mean_names tables (trees whole) u ss part.mode.steps refl (wider part whole of n ss (stands part n ss e)) resolved (fit_wider part whole of w refl (start w part.mode.steps) fit)).0 in

@@ -66,7 +66,7 @@ row files seen i (o ∷ rs) h =
 
 pub row_of_plan : (files : List File) (plan : Plan) → IsPlanOf files plan → (placed : Files) × ArePlaced files plan placed
 row_of_plan files plan is =
-    let seen : Outside = outside is.prelude plan.mode.dialect in
+    let seen : Outside = outside is.prelude plan.mode.language in
     let all : Row files seen 0 plan.reads = row files seen 0 plan.reads (λ k r e. (let same : k ≡ 0 + k = omega arith in subst (λ n. IsRead files seen n r) same (is.right k r e))) in (
       all.placed,
       record {

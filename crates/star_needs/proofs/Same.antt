@@ -79,7 +79,7 @@ same-format_letter : (os : List (Option Outline)) (w : Setting) (levels line : �
 unfolding str repr
 same-format_letter os w levels line letter x =
     ap (λ m. cond (nat_eq letter 115) (str w levels line x) (cond (nat_eq letter 114) (repr w levels line x) (cond (nat_eq letter 100) (want_int w line x >>= λ n. repr w levels line x) m)))
-    (same-letter_in os w levels line w.dialect letter x)
+    (same-letter_in os w levels line w.language.dialect letter x)
 
 same-next_text : (os : List (Option Outline)) (w : Setting) (levels line : ℕ) (letter : ℕ) (xs : List Value) → next_text (with_outlines os w) levels line letter xs ≡ next_text w levels line letter xs
 same-next_text os w levels line letter [] = refl
@@ -102,7 +102,7 @@ same-filled os w levels line y Between (b ∷ bs) xs out =
     λ i. cond (nat_eq b 37) (same-filled os w levels line y Format bs xs out i) (same-filled os w levels line y Between bs xs (out ++ b ∷ []) i)
 same-filled os w levels line y Format (b ∷ bs) xs out =
     λ i. cond (nat_eq b 37) (same-filled os w levels line y Between bs xs (out ++ b ∷ []) i)
-    (cond (opens w.dialect b) (same-filled os w levels line y (Name []) bs xs out i)
+    (cond (opens w.language.dialect b) (same-filled os w levels line y (Name []) bs xs out i)
     (same-next_text os w levels line b xs i >>= λ r. same-filled os w levels line y Between bs r.1 (out ++ r.0) i))
 same-filled os w levels line y (Name k) (b ∷ bs) xs out =
     λ i. cond (nat_eq b 41) (same-filled os w levels line y (Named k) bs xs out i) (same-filled os w levels line y (Name (k ++ b ∷ [])) bs xs out i)

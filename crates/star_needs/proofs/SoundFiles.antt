@@ -31,9 +31,9 @@ use Rattle.star_needs.proofs.PlacedBodies.{bodies_placed, left_none}
 none_misplaced : (files : List File) (plan : Plan) (is : IsPlanOf files plan) (n : ℕ) (ss : List Statement) → tree_in (read_of plan n) ≡ Some ss → in_statements ss (standing_in n is.prelude) ≡ []
 none_misplaced files plan is n ss e =
     let read = sound_read (read_of plan n) ss e in
-    let right : IsRead files (outside is.prelude plan.mode.dialect) n (Sound ss read.0) = is.right n (Sound ss read.0) read.1 in
+    let right : IsRead files (outside is.prelude plan.mode.language) n (Sound ss read.0) = is.right n (Sound ss read.0) read.1 in
     let resolves = right.3.1 in
-    let none : faults_in n (outside is.prelude plan.mode.dialect) ss resolves.0 ≡ [] = none_first (faults_in n (outside is.prelude plan.mode.dialect) ss resolves.0) resolves.2 in
+    let none : faults_in n (outside is.prelude plan.mode.language) ss resolves.0 ≡ [] = none_first (faults_in n (outside is.prelude plan.mode.language) ss resolves.0) resolves.2 in
     left_none (in_statements ss (standing_in n is.prelude)) _ none
 
 by_standing : (n : ℕ) (p : Option Prelude) (ss : List Statement) → in_statements ss (standing_in n p) ≡ [] → (misplaced ss ≡ []) ⊎ (in_statements ss of_prelude ≡ [])

@@ -6,6 +6,7 @@ use Rattle.star_label.specs.Files.{File}
 use Rattle.star_store.specs.declared.values.Value.{Value}
 use Rattle.star_store.specs.Store.{Published, Shelf}
 use Rattle.star_tree.specs.declared.tree.Statement.{Statement}
+use Rattle.star_meaning.specs.declared.said.Said.{Said}
 use Rattle.star_meaning.specs.Local.{reached}
 use Rattle.star_meaning.specs.Module.{Good, Local, Stopped}
 use Rattle.star_plan.specs.Plan.{Plan, loaded, loads_in, read_of, tree_in}
@@ -25,7 +26,7 @@ use Rattle.star_needs.proofs.Below.{given_below, reached_there}
 use Rattle.star_needs.proofs.VisiblePlaces.{Reveals, cells_more, every_more, hides_in, hides_over, over_in, over_more, reveals_both, value_more}
 
 -- a good result in one plan has a counterpart in the other, with the same module of its own, which leads to nothing hidden
-pub record Kept (is_in : ℕ → Bool) (q : Plan) (n : ℕ) (shelf : Shelf) (globals : List (List ℕ × Value)) (texts : List (List ℕ × List ℕ)) (lines : List (List ℕ)) : Type 0 where
+pub record Kept (is_in : ℕ → Bool) (q : Plan) (n : ℕ) (shelf : Shelf) (globals : List (List ℕ × Value)) (texts : List (List ℕ × List ℕ)) (lines : List Said) : Type 0 where
   pub depth : ℕ
   pub other : Shelf
   pub ended : result q depth n ≡ Some (Good other globals texts lines)
@@ -43,7 +44,7 @@ KeptBy is_in q n (Stopped f lines) = Unit {0}
 abbrev pub KeptAt : (ℕ → Bool) → Plan → Plan → ℕ → Type 0
 KeptAt is_in p q d = (n : ℕ) → is_in n ≡ true → (m : Local) → result p d n ≡ Some m → KeptBy is_in q n m
 
-pub own_of : (is_in : ℕ → Bool) (q : Plan) (n : ℕ) (s : Shelf) (g : List (List ℕ × Value)) (t : List (List ℕ × List ℕ)) (l : List (List ℕ)) (z : Kept is_in q n s g t l) → IsOwn q n z.one
+pub own_of : (is_in : ℕ → Bool) (q : Plan) (n : ℕ) (s : Shelf) (g : List (List ℕ × Value)) (t : List (List ℕ × List ℕ)) (l : List Said) (z : Kept is_in q n s g t l) → IsOwn q n z.one
 own_of is_in q n s g t l z = record { depth = z.depth; shelf = z.other; globals = g; texts = t; lines = l; ended = z.ended; there = z.on_other }
 
 -- a file whose loads have good outcomes in both plans, and the laws of runs over two shelves

@@ -34,9 +34,9 @@ other_of {q = q} {n = n} k = record { shelf = shelf_q k; outlines = (given q n k
 -- the setting in the other plan
 pub with_is : (is_in : ℕ → Bool) (p q : Plan) (n : ℕ) (k : Step is_in p q n) → with_other (other_of k) (given p n k.ms) ≡ given q n k.ks
 with_is is_in p q n k =
-    ap (λ r. setting n (trees q) (load_files (loads_in r)) p.prelude p.mode.dialect k.ks) (k.agree.reads n k.within)
-    ∙ (ap (λ o. setting n (trees q) (load_files (loads_of q n)) o p.mode.dialect k.ks) k.agree.prelude
-    ∙ ap (λ (m : Mode). setting n (trees q) (load_files (loads_of q n)) q.prelude m.dialect k.ks) k.agree.mode)
+    ap (λ r. setting n (trees q) (load_files (loads_in r)) p.prelude p.mode.language k.ks) (k.agree.reads n k.within)
+    ∙ (ap (λ o. setting n (trees q) (load_files (loads_of q n)) o p.mode.language k.ks) k.agree.prelude
+    ∙ ap (λ (m : Mode). setting n (trees q) (load_files (loads_of q n)) q.prelude m.language k.ks) k.agree.mode)
 
 -- ---- cells
 

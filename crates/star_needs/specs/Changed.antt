@@ -20,6 +20,7 @@ use Rattle.star_tree.specs.declared.tree.Form.TheOpen as form
 use Rattle.star_tree.specs.declared.tree.LoadedName.{LoadedName}
 use Rattle.star_tree.specs.declared.tree.Statement.{Statement}
 use Rattle.star_outline.specs.Syntax.{StatementForm, form_of, position_of}
+use Rattle.star_meaning.specs.declared.said.Said.{Said}
 use Rattle.star_meaning.specs.Module.{Good, most_levels}
 use Rattle.star_meaning.specs.Programs.{load_files}
 use Rattle.star_plan.specs.Plan.{Plan, Reading, loaded, loads_of, read_of, tree_in}
@@ -129,7 +130,7 @@ pub record AgreeButFor (is_in : ℕ → Bool) (p q : Plan) : Type 0 where
 pub record Stays (p q : Plan) (n : ℕ) : Type 0 where
   pub own : (m : Published) → IsOwn p n m → IsOwn q n m
   pub outcome : (shelf : Shelf) (globals : List (List ℕ × Value)) (texts : List (List ℕ × List ℕ))
-      (lines : List (List ℕ)) → IsOutcome p n (Ran (Good shelf globals texts lines))
+      (lines : List Said) → IsOutcome p n (Ran (Good shelf globals texts lines))
       → (other : Shelf) × IsOutcome q n (Ran (Good other globals texts lines))
   pub paid : (k : ℕ) → HasPaid p n k → HasPaid q n k
 

@@ -28,7 +28,7 @@ IsBodyUnder files prelude mode n b = InEachPlan files prelude mode n (λ plan. I
 -- the file n of these files, with this prelude and mode, loads these files, in order: each reading of it says so
 abbrev pub AreLoadsUnder : List File → Option ℕ → Mode → ℕ → List ℕ → Type 0
 AreLoadsUnder files prelude mode n loads =
-    (p : Option Prelude) (r : Reading) → IsPrelude files prelude p → IsRead files (outside p mode.dialect) n r
+    (p : Option Prelude) (r : Reading) → IsPrelude files prelude p → IsRead files (outside p mode.language) n r
     → map (λ l. l.file) (loads_in (Some r)) ≡ loads
 
 -- each of some files has all that it loads among them

@@ -2,7 +2,7 @@
 -- text. They do not depend on the roots, nor on any other text.
 use Rattle.std.specs.Prelude.{◌≡◌, ◌↔◌, ℕ, Bool, true, List, Option}
 use Rattle.star_cache.specs.State.{Loads}
-use Rattle.star_dialect.specs.declared.Dialect.{Dialect}
+use Rattle.star_dialect.specs.declared.Language.{Language}
 use Rattle.star_dialect.specs.declared.Mode.{Mode}
 use Rattle.star_label.specs.Files.{File, IsOrdered}
 use Rattle.star_scope.specs.declared.program.Prelude.{Prelude}
@@ -22,12 +22,12 @@ use Rattle.star_needs.specs.Laws.{Among}
 abbrev pub OneModuleEndByNeeds : Type 0
 OneModuleEndByNeeds = Among (λ p q n. (e : Ended) → IsEnd p n e ↔ IsEnd q n e)
 
--- two plans of files with the same labels, in one dialect: a file that both reach has one reading, if its text and the
+-- two plans of files with the same labels, in one language: a file that both reach has one reading, if its text and the
 -- prelude's are the same
 abbrev pub OneReadingByTexts : Type 0
 OneReadingByTexts =
     (files others : List File) (p q : Plan) (is_in : ℕ → Bool) → IsOrdered files → IsPlanOf files p → IsPlanOf others q
-    → p.prelude ≡ q.prelude → p.mode.dialect ≡ q.mode.dialect → HaveSame is_in p.prelude files others
+    → p.prelude ≡ q.prelude → p.mode.language ≡ q.mode.language → HaveSame is_in p.prelude files others
     → (n : ℕ) → is_in n ≡ true → IsReached p n → IsReached q n → read_of p n ≡ read_of q n
 
 -- .. and its module has one end, if the texts of all that it needs are the same
@@ -71,7 +71,7 @@ LoadsInPlans =
 abbrev pub ReadingsStay : Type 0
 ReadingsStay =
     (files others : List File) (prelude : Option ℕ) (is_in : ℕ → Bool) → HaveSame is_in prelude files others
-    → (p : Option Prelude) (d : Dialect) (n : ℕ) (r : Reading) → is_in n ≡ true → IsPrelude files prelude p
+    → (p : Option Prelude) (d : Language) (n : ℕ) (r : Reading) → is_in n ≡ true → IsPrelude files prelude p
     → IsRead files (outside p d) n r → IsPrelude others prelude p × IsRead others (outside p d) n r
 
 -- so its loads stay

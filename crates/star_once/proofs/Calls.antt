@@ -27,7 +27,7 @@ use Rattle.star_once.specs.Keys.{KeysDiffer}
 use Rattle.star_once.proofs.After.{After, Some_answer, after_then, given_now, held_then, plain}
 use Rattle.star_once.proofs.Dicts.{dict_of_differs, named_dict, pairs_of_after}
 use Rattle.star_once.proofs.Json.{decode_differs}
-use Rattle.star_meaning.proofs.KeepsJson.{respects-call_encode, respects-call_encode_indent}
+use Rattle.star_meaning.proofs.KeepsJson.{respects-call_encode, respects-call_encode_indent, respects-call_recorded}
 use Rattle.star_once.proofs.Arguments.{given_after}
 use Rattle.star_once.proofs.Keeps.{AllKeep, Keeps, KeepsWhere, VariablesKeep, keeps, once_by}
 use Rattle.star_meaning.proofs.KeepsArguments.{respects-none_or_one}
@@ -132,6 +132,7 @@ built_in_differs w levels line built_in.Struct g s h n = (once_by {w = w} (respe
 built_in_differs w levels line built_in.JsonDecode g s h n = decode_differs w levels line g s h
 built_in_differs w levels line built_in.JsonEncode g s h n = (once_by (respects-call_encode w levels line g)).holds s h
 built_in_differs w levels line built_in.JsonEncodeIndent g s h n = (once_by (respects-call_encode_indent w levels line g)).holds s h
+built_in_differs w levels line (built_in.Recorded i) g s h n = (once_by (respects-call_recorded w levels line i g)).holds s h
 
 found_call : (w : Setting) (m : Semantics) (p : Site) (f : Function) (d : Definition) (o : Option (List (Name × BoundArgument))) (s : State) → AllKeep w m → KeysDiffer w s → ((xs : List (Name × BoundArgument)) → o ≡ Some xs → SharesOnce (seen w s) xs) → writes.Held w ((found code.Args p.line o >>= m.call p f d) s)
 found_call w m p f d None s k h a = tt
@@ -174,7 +175,7 @@ called_built_in_differs w levels m p b g false s k h n = built_in_differs w leve
 
 called_differs : (w : Setting) (levels : ℕ) (m : Semantics) (p : Site) (c : Callee) (g : Arguments) (s : State) → AllKeep w m → KeysDiffer w s → NamedOnce (seen w s) g.named → writes.Held w (called w levels m p c g s)
 called_differs w levels m p (AFunction f d) g s k h n = plainly_differs w levels m p (AFunction f d) g s k h n
-called_differs w levels m p (ABuiltIn b) g s k h n = called_built_in_differs w levels m p b g (takes_key w.dialect g) s k h n.0
+called_differs w levels m p (ABuiltIn b) g s k h n = called_built_in_differs w levels m p b g (takes_key w.language.dialect g) s k h n.0
 called_differs w levels m p (AMethod b x) g s k h n = plainly_differs w levels m p (AMethod b x) g s k h n
 
 given_called : (w : Setting) (levels : ℕ) (m : Semantics) (p : Site) (ps : List EvaluatedArgument) (c : Callee) → AllKeep w m → Keeps w (given w p.line ps >>= λ g. called w levels m p c g)

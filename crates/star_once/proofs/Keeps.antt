@@ -20,7 +20,8 @@ use Rattle.star_meaning.specs.declared.fault.FaultCode.{FaultCode}
 use Rattle.star_meaning.specs.declared.fault.FaultCode.TheVariants as code
 use Rattle.star_meaning.specs.declared.site.Site.{Site}
 use Rattle.star_meaning.specs.declared.site.Flow.{Flow}
-use Rattle.star_meaning.specs.Run.{State, Outcome, Done, Failed, Action, and_then, ◌>>=◌, give, fail, pay, check, found, settled, visiting, seeing, storing, make, build, each, all_of, add_line}
+use Rattle.star_meaning.specs.declared.said.Said.{Said}
+use Rattle.star_meaning.specs.Run.{State, Outcome, Done, Failed, Action, and_then, ◌>>=◌, give, fail, pay, check, found, settled, visiting, seeing, storing, make, build, each, all_of, add_said}
 use Rattle.star_meaning.specs.Program.{Setting, Variables, seen}
 use Rattle.star_meaning.specs.Values.{change, count_of, iterate, leave}
 use Rattle.star_meaning.specs.Binding.{BoundArgument}
@@ -130,9 +131,9 @@ settled_differs w line s (Lacks f left) h = tt
 pub keeps_visiting : {w : Setting} {A : Type 0} (line : ℕ) (f : State → Spend A) → Keeps w (visiting line f)
 keeps_visiting {w = w} line f = record { holds = λ s h. settled_differs w line s (f s s.steps) h }
 
-pub keeps_add_line : {w : Setting} (bytes : List ℕ) → Keeps w (add_line bytes)
-unfolding add_line
-keeps_add_line bytes = record { holds = λ s h. h }
+pub keeps_add_said : {w : Setting} (x : Said) → Keeps w (add_said x)
+unfolding add_said
+keeps_add_said x = record { holds = λ s h. h }
 
 -- ---- changes of a cell
 
@@ -245,7 +246,7 @@ once w = record {
   makes_struct = keeps_make_struct;
   makes_set = keeps_make_set;
   changes = keeps_change w;
-  adds_line = keeps_add_line;
+  adds_said = keeps_add_said;
   iterates = keeps_while w;
   loops = keeps_looping w;
 }
@@ -270,4 +271,4 @@ keeps_turns f n i k = once_by (respects_turns f n i (λ j. record { kept = k j }
 pub keeps_repeat : {w : Setting} (f : ℕ → Action (Unit {0})) (n i : ℕ) → ((i : ℕ) → Keeps w (f i)) → Keeps w (repeat f n i)
 keeps_repeat f n i k = once_by (respects_repeat f n i (λ j. record { kept = k j }))
 
-pub ruleset keeps = (refl, keeps_then, keeps_give, keeps_fail, keeps_if, keeps_found, keeps_pay, keeps_seeing, keeps_check, keeps_make_text, keeps_make_tuple, keeps_make_list, keeps_make_range, keeps_make_bound, keeps_make_struct, keeps_make_set, keeps_make_frame, keeps_make_function, keeps_make_none, keeps_build, keeps_each, keeps_all_of, keeps_visiting, keeps_bound, keeps_change, keeps_iterate, keeps_leave, keeps_activate, keeps_deactivate, keeps_add_line, keeps_block, keeps_turns, keeps_repeat, keeps_read, keeps_bind, keeps_frame, keeps_expr, keeps_stmt, keeps_assign, keeps_parts)
+pub ruleset keeps = (refl, keeps_then, keeps_give, keeps_fail, keeps_if, keeps_found, keeps_pay, keeps_seeing, keeps_check, keeps_make_text, keeps_make_tuple, keeps_make_list, keeps_make_range, keeps_make_bound, keeps_make_struct, keeps_make_set, keeps_make_frame, keeps_make_function, keeps_make_none, keeps_build, keeps_each, keeps_all_of, keeps_visiting, keeps_bound, keeps_change, keeps_iterate, keeps_leave, keeps_activate, keeps_deactivate, keeps_add_said, keeps_block, keeps_turns, keeps_repeat, keeps_read, keeps_bind, keeps_frame, keeps_expr, keeps_stmt, keeps_assign, keeps_parts)

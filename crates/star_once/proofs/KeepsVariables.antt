@@ -7,7 +7,7 @@ use Rattle.std.proofs.Common.{ℕ, List, Option, Some, None}
 use Rattle.star_meaning.specs.Variables.{outside_prelude, outside, read_found, read_name, bind_at, bind_name, new_frame}
 use Rattle.star_once.proofs.Keeps.{keeps, Keeps}
 
-pub keeps-outside_prelude : {w : Setting} → (line : ℕ) (name : List ℕ) → Keeps w (outside_prelude w.dialect line name)
+pub keeps-outside_prelude : {w : Setting} → (line : ℕ) (name : List ℕ) → Keeps w (outside_prelude w.language line name)
 keeps-outside_prelude line name = search keeps depth 14
 
 pub keeps-outside : (w : Setting) (a1 : Option ℕ) (file : ℕ) (line : ℕ) (name : List ℕ) → Keeps w (outside w a1 file line name)

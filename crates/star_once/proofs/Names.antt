@@ -10,6 +10,7 @@ use Rattle.star_store.specs.Store.{Shelf}
 use Rattle.star_tree.specs.declared.tree.Statement.{Statement}
 use Rattle.star_outline.specs.Names.{once, same_name}
 use Rattle.star_outline.specs.Outlines.{block_names, loaded_names, names_in, outline}
+use Rattle.star_meaning.specs.declared.said.Said.{Said}
 use Rattle.star_meaning.specs.Local.{Trees}
 use Rattle.star_meaning.specs.Semantics.{block}
 use Rattle.star_meaning.specs.Module.{Ended, Good, Local, Stopped, bound_names, by_name, end, global_text, globals_of, if_bound, last_line, local_of, meaning, most_levels, put_by_name, run_file, slots_of, start, without_loaded}
@@ -187,14 +188,14 @@ run_named vs w levels ss s free =
 abbrev GoodNamed : List (List ℕ × Value) → List (List ℕ × List ℕ) → Type 0
 GoodNamed globals texts = AllFree (names globals) × (names texts ≡ names globals)
 
-local_named : (w : Setting) (o : Outcome Ended) (shelf : Shelf) (globals : List (List ℕ × Value)) (texts : List (List ℕ × List ℕ)) (lines : List (List ℕ)) → Gives Named o → local_of w o ≡ Good shelf globals texts lines → GoodNamed globals texts
+local_named : (w : Setting) (o : Outcome Ended) (shelf : Shelf) (globals : List (List ℕ × Value)) (texts : List (List ℕ × List ℕ)) (lines : List Said) → Gives Named o → local_of w o ≡ Good shelf globals texts lines → GoodNamed globals texts
 local_named w (Done e t) shelf globals texts lines named is =
     let one : e.globals ≡ globals = cc in
     let two : e.texts ≡ texts = cc in
     (subst (λ z. AllFree (names z)) one named.0, ap names (sym two) ∙ (named.1 ∙ ap names one))
 local_named w (Failed f printed) shelf globals texts lines named is = absurd (let bad : ⊥ = cc in bad)
 
-of_result : (plan : Plan) (d n : ℕ) (shelf : Shelf) (globals : List (List ℕ × Value)) (texts : List (List ℕ × List ℕ)) (lines : List (List ℕ)) → result plan (suc d) n ≡ Some (Good shelf globals texts lines) → GoodNamed globals texts
+of_result : (plan : Plan) (d n : ℕ) (shelf : Shelf) (globals : List (List ℕ × Value)) (texts : List (List ℕ × List ℕ)) (lines : List Said) → result plan (suc d) n ≡ Some (Good shelf globals texts lines) → GoodNamed globals texts
 of_result plan d n shelf globals texts lines is =
     let from = result-from plan d n (Good shelf globals texts lines) is in
     let sound = result-sound plan (suc d) n (Good shelf globals texts lines) is in
@@ -202,7 +203,7 @@ of_result plan d n shelf globals texts lines is =
     (run_named (by_names (given plan n from.0)) (given plan n from.0) most_levels sound.0 (start (given plan n from.0) plan.mode.steps) (file_free (trees plan) n))
     (ran-is plan n sound.0 from.0 sound.1 ∙ from.2)
 
-at_depth : (plan : Plan) (d n : ℕ) (shelf : Shelf) (globals : List (List ℕ × Value)) (texts : List (List ℕ × List ℕ)) (lines : List (List ℕ)) → result plan d n ≡ Some (Good shelf globals texts lines) → GoodNamed globals texts
+at_depth : (plan : Plan) (d n : ℕ) (shelf : Shelf) (globals : List (List ℕ × Value)) (texts : List (List ℕ × List ℕ)) (lines : List Said) → result plan d n ≡ Some (Good shelf globals texts lines) → GoodNamed globals texts
 at_depth plan zero n shelf globals texts lines is = absurd (never plan n (Good shelf globals texts lines, ap if_good is))
 at_depth plan (suc d) n shelf globals texts lines is = of_result plan d n shelf globals texts lines is
 

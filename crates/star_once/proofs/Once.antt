@@ -8,6 +8,7 @@ use Rattle.star_store.specs.declared.values.Cell.TheVariants as cell
 use Rattle.star_store.specs.Store.{Published, Shelf, is_taken, published_cells, put_up, widened}
 use Rattle.star_store.specs.Write.{cell_at}
 use Rattle.star_tree.specs.declared.tree.Statement.{Statement}
+use Rattle.star_meaning.specs.declared.said.Said.{Said}
 use Rattle.star_meaning.specs.Laws.{Grown}
 use Rattle.star_meaning.specs.Module.{Ended, Good, end, local_of, meaning, most_levels, run_file, start}
 use Rattle.star_meaning.specs.Places.{Loaded}
@@ -155,7 +156,7 @@ text_too look see all (value.Builtin b) t e = absurd (let no : ⊥ = cc in no)
 pub fewer_once : (look see : Value → Option Cell) → ((v : Value) (c : Cell) → look v ≡ Some c → see v ≡ Some c) → KeysStandOnce see → KeysStandOnce look
 fewer_once look see all h v es e i j x y t a b p q = h v es (all v (cell.Dict es) e) i j x y t a b (text_too look see all x.0 t p) (text_too look see all y.0 t q)
 
-by_outcome : (w : Setting) (steps : ℕ) (statements : List Statement) (shelf : Shelf) (globals : List (List ℕ × Value)) (texts : List (List ℕ × List ℕ)) (lines : List (List ℕ)) (o : Outcome Ended)
+by_outcome : (w : Setting) (steps : ℕ) (statements : List Statement) (shelf : Shelf) (globals : List (List ℕ × Value)) (texts : List (List ℕ × List ℕ)) (lines : List Said) (o : Outcome Ended)
     → KeysDiffer w (start w steps) → published_of w w.home ≡ None → run_file (by_names w) w most_levels statements (start w steps) ≡ o → local_of w o ≡ Good shelf globals texts lines → KeysStandOnce (on_shelf shelf)
 by_outcome w steps statements shelf globals texts lines (Done e t) h free is good =
     let same : put_up w.home (record { cells = t.store.cells; globals = e.globals }) w.shelf ≡ shelf = cc in

@@ -7,6 +7,7 @@ use Rattle.star_tree.specs.declared.tree.Expression.{Expression}
 use Rattle.star_tree.specs.declared.tree.Statement.{Statement}
 use Rattle.star_meaning.specs.declared.site.Site.{Site}
 use Rattle.star_meaning.specs.declared.site.Flow.{Flow}
+use Rattle.star_meaning.specs.declared.said.Said.{Said}
 use Rattle.star_meaning.specs.Run.{State, Done}
 use Rattle.star_meaning.specs.Program.{Setting, published_of, seen}
 use Rattle.star_meaning.specs.Variables.{by_names}
@@ -44,6 +45,6 @@ LoadsKeepKeys = (w : Setting) (steps : ℕ)
 -- its run, and the module was not on its own shelf.
 abbrev pub FrozenKeysStandOnce : Type 0
 FrozenKeysStandOnce = (w : Setting) (steps : ℕ) (statements : List Statement) (shelf : Shelf)
-    (globals : List (List ℕ × Value)) (texts : List (List ℕ × List ℕ)) (lines : List (List ℕ))
+    (globals : List (List ℕ × Value)) (texts : List (List ℕ × List ℕ)) (lines : List Said)
     → KeysDiffer w (start w steps) → published_of w w.home ≡ None
     → local w steps statements ≡ Good shelf globals texts lines → KeysStandOnce (on_shelf shelf)

@@ -2,6 +2,7 @@
 use Rattle.std.specs.Prelude.{◌≡◌, ℕ, List, [], ◌∷◌, Contains, map}
 use Rattle.star_store.specs.declared.values.Value.{Value}
 use Rattle.star_store.specs.Store.{Shelf}
+use Rattle.star_meaning.specs.declared.said.Said.{Said}
 use Rattle.star_meaning.specs.Module.{Good}
 use Rattle.star_plan.specs.Plan.{Plan}
 use Rattle.star_plan.specs.Results.{IsOutcome, Ran}
@@ -15,5 +16,5 @@ NamesDiffer (n ∷ ns) = (Contains ns n → ⊥) × NamesDiffer ns
 -- same order.
 abbrev pub GlobalsStandOnce : Type 0
 GlobalsStandOnce = (plan : Plan) (n : ℕ) (shelf : Shelf) (globals : List (List ℕ × Value))
-    (texts : List (List ℕ × List ℕ)) (lines : List (List ℕ)) → IsOutcome plan n (Ran (Good shelf globals texts lines))
+    (texts : List (List ℕ × List ℕ)) (lines : List Said) → IsOutcome plan n (Ran (Good shelf globals texts lines))
     → NamesDiffer (map (λ g. g.0) globals) × (map (λ g. g.0) texts ≡ map (λ g. g.0) globals)

@@ -54,7 +54,7 @@ letter_if : (w : Setting) (levels line : ℕ) (y : Value) (b : ℕ) (bs : List �
 letter_if w levels line y b bs xs out m s true = refl
 letter_if w levels line y b bs xs out m s false = letter_done w levels line y bs out (m s)
 
-pub filled_letter : (w : Setting) (levels line : ℕ) (y : Value) (after : List ℕ) (b : ℕ) (bs : List ℕ) (xs : List Value) (out : List ℕ) (s : State) → after ≡ b ∷ bs → opens w.dialect b ≡ false → filled w levels line y Format after xs out s ≡ and_then (letter_put w levels line b xs out s) (λ r. filled w levels line y Between bs r.0 r.1)
+pub filled_letter : (w : Setting) (levels line : ℕ) (y : Value) (after : List ℕ) (b : ℕ) (bs : List ℕ) (xs : List Value) (out : List ℕ) (s : State) → after ≡ b ∷ bs → opens w.language.dialect b ≡ false → filled w levels line y Format after xs out s ≡ and_then (letter_put w levels line b xs out s) (λ r. filled w levels line y Between bs r.0 r.1)
 filled_letter w levels line y after b bs xs out s e h = rw (e, h) (letter_if w levels line y b bs xs out (next_text w levels line b xs) s (nat_eq b 37))
 
 -- a byte that is not ASCII is not a letter, and begins no name
@@ -76,7 +76,7 @@ no_letter w levels line b (x ∷ xs) s h =
     let l : nat_eq b 115 ≡ false = grind (arith, nat_tests) in
     let r : nat_eq b 114 ≡ false = grind (arith, nat_tests) in
     let d : nat_eq b 100 ≡ false = grind (arith, nat_tests) in
-    rw (l, r, d, none_in w.dialect w levels line b x h) refl
+    rw (l, r, d, none_in w.language.dialect w levels line b x h) refl
 
 no_opening : (d : Dialect) (b : ℕ) → nat_lt b 128 ≡ false → opens d b ≡ false
 no_opening dialect.Core b h = refl
@@ -86,7 +86,7 @@ pub filled_badly : (w : Setting) (levels line : ℕ) (y : Value) (after : List �
 filled_badly w levels line y [] xs out s h = refl
 filled_badly w levels line y (b ∷ bs) xs out s h =
     let p : nat_eq b 37 ≡ false = grind (arith, nat_tests) in
-    rw (p, no_opening w.dialect b h, no_letter w levels line b xs s h) refl
+    rw (p, no_opening w.language.dialect b h, no_letter w levels line b xs s h) refl
 
 -- the end
 pub filled_well : (w : Setting) (levels line : ℕ) (y : Value) (t : List ℕ) (xs : List Value) (out : List ℕ) (s : State) → list_all (is_neither 37 37) t ≡ true → length xs ≡ 0 → filled w levels line y Between t xs out s ≡ Done (out ++ t) s

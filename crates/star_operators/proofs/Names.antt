@@ -30,9 +30,9 @@ parenthesis : (d : Dialect) (b : ℕ) → opens d b ≡ true → nat_eq b 40 ≡
 parenthesis dialect.Core b h = cc
 parenthesis dialect.Extended b h = h
 
-pub filled_name : (w : Setting) (levels line : ℕ) (y : Value) (after : List ℕ) (b : ℕ) (bs : List ℕ) (xs : List Value) (out : List ℕ) (s : State) → after ≡ b ∷ bs → opens w.dialect b ≡ true → filled w levels line y Format after xs out s ≡ filled w levels line y (Name []) bs [] out s
+pub filled_name : (w : Setting) (levels line : ℕ) (y : Value) (after : List ℕ) (b : ℕ) (bs : List ℕ) (xs : List Value) (out : List ℕ) (s : State) → after ≡ b ∷ bs → opens w.language.dialect b ≡ true → filled w levels line y Format after xs out s ≡ filled w levels line y (Name []) bs [] out s
 filled_name w levels line y after b bs xs out s e h =
-    let q : nat_eq b 40 ≡ true = parenthesis w.dialect b h in
+    let q : nat_eq b 40 ≡ true = parenthesis w.language.dialect b h in
     let p : nat_eq b 37 ≡ false = grind (arith, nat_tests) in
     rw (e, p, h) (ap (λ f. f s) (name_forgets w levels line y [] bs xs out))
 

@@ -25,7 +25,7 @@ item_list None = []
 item_list (Some x) = x ∷ []
 
 abbrev pub slices_checked : Setting → ℕ → Value → Action (Unit {0})
-slices_checked w line x = with_content w x (λ d. check code.BadType line (has_slices w.dialect d))
+slices_checked w line x = with_content w x (λ d. check code.BadType line (has_slices w.language.dialect d))
 
 -- the ints of a range at the places of another one; three steps, each of which may be refused
 abbrev pub then_with : {A B : Type 0} → Result A StoreFault → (A → Result B StoreFault) → Result B StoreFault

@@ -11,13 +11,13 @@ use crate::module::Body;
 use crate::reachable::stores_with;
 use crate::run_id::RunId;
 use crate::store_row::{Reach, StoreRow};
+use star_meaning::said::Said;
 use star_store::arena::Frozen;
-use star_text::Text;
 use std::alloc::{AllocError, Global};
 use std::sync::Arc;
 
-/// The same lines, which are shared.
-fn lines_again(alloc: Global, lines: &[Text]) -> Result<Vec<Text>, AllocError>
+/// The same lines and calls, whose texts are shared.
+fn lines_again(alloc: Global, lines: &[Said]) -> Result<Vec<Said>, AllocError>
     ensures { IfOk result (λ again. again.items ≡ lines.now) }
 {
     let mut again = Vec::with_capacity(alloc, lines.len())?;

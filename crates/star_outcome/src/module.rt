@@ -7,9 +7,9 @@ use crate::shown::Shown;
 use crate::store_row::StoreRow;
 use star_found::about::Found;
 use star_meaning::fault::FaultCode;
+use star_meaning::said::Said;
 use star_meaning::story::Step;
 use star_reading::code::StaticFault;
-use star_text::Text;
 use std::sync::Arc;
 
 /// The result of a good run.
@@ -18,7 +18,7 @@ pub struct Body {
     pub stores: StoreRow,
     /// The globals with their texts, which the body has in common with the one over other stores.
     pub shown: Arc<Shown>,
-    pub lines: Vec<Text>,
+    pub lines: Vec<Said>,
     /// The steps that its run has paid.
     pub paid: u32,
 }
@@ -57,11 +57,11 @@ pub enum Ended {
         index: usize,
         line: usize,
     },
-    /// Its run stopped at this line, for this reason, after it had printed these lines.
+    /// Its run stopped at this line, for this reason, after it had said this.
     Stopped {
         code: FaultCode,
         line: usize,
-        lines: Vec<Text>,
+        lines: Vec<Said>,
         left: Left,
     },
     /// Its run went well.

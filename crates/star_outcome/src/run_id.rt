@@ -22,7 +22,7 @@ pub trait RunId: Ledger {
 impl RunId for Brand {
     ghost files = { [] };
 
-    ghost plan = { record { roots = []; prelude = None; mode = record { steps = 1; dialect = Core }; reads = [] } };
+    ghost plan = { record { roots = []; prelude = None; mode = record { steps = 1; language = record { dialect = Core; recorded = [] } }; reads = [] } };
 
     ghost shelf = { [] };
 }

@@ -112,8 +112,8 @@ one-prelude files (Some n) a b (r, parses, other, is) (t, also, another, at) =
 
 module _ (files : List File) (ordered : IsOrdered files) (p q : Plan) (a : IsPlanOf files p) (b : IsPlanOf files q) (roots : p.roots ≡ q.roots) (preludes : a.prelude ≡ b.prelude) (modes : p.mode ≡ q.mode) where
   same_read : (n : ℕ) (r s : Reading) → read_of p n ≡ Some r → read_of q n ≡ Some s → r ≡ s
-  same_read n r s x y = one-reading files (outside b.prelude q.mode.dialect) n ordered r s
-      (subst (λ m. IsRead files (outside b.prelude m.dialect) n r) modes (subst (λ o. IsRead files (outside o p.mode.dialect) n r) preludes (a.right n r x))) (b.right n s y)
+  same_read n r s x y = one-reading files (outside b.prelude q.mode.language) n ordered r s
+      (subst (λ m. IsRead files (outside b.prelude m.language) n r) modes (subst (λ o. IsRead files (outside o p.mode.language) n r) preludes (a.right n r x))) (b.right n s y)
 
   reached_too : (n : ℕ) → IsReached p n → IsReached q n
   reached_too n (root h) = root (subst (λ rs. Contains rs n) roots h)

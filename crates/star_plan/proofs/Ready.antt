@@ -16,8 +16,8 @@ use Rattle.star_plan.proofs.Seen.{ran-is}
 
 same_setting : (plan : Plan) (placed : Files) (n : ℕ) (ms : List Local) (shelf : Shelf) → trees_of placed ≡ trees plan → shelf ≡ (given plan n ms).shelf → given_over placed plan n shelf ≡ given plan n ms
 same_setting plan placed n ms shelf trees_are shelf_is =
-    ap (λ (t : Trees). let w : Setting = record { home = n; outlines = outlines t; shelf = shelf; loads = load_files (loads_of plan n); prelude = plan.prelude; dialect = plan.mode.dialect } in w) trees_are
-    ∙ ap (λ (s : Shelf). let w : Setting = record { home = n; outlines = outlines (trees plan); shelf = s; loads = load_files (loads_of plan n); prelude = plan.prelude; dialect = plan.mode.dialect } in w) shelf_is
+    ap (λ (t : Trees). let w : Setting = record { home = n; outlines = outlines t; shelf = shelf; loads = load_files (loads_of plan n); prelude = plan.prelude; language = plan.mode.language } in w) trees_are
+    ∙ ap (λ (s : Shelf). let w : Setting = record { home = n; outlines = outlines (trees plan); shelf = s; loads = load_files (loads_of plan n); prelude = plan.prelude; language = plan.mode.language } in w) shelf_is
 
 pub files_may_run : FilesMayRun
 files_may_run files plan placed is placed_so n ss shelf e good tight holds =

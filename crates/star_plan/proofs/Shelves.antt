@@ -115,7 +115,7 @@ of_local w (Done x s) m e k p at = turn (from_put (is_taken (slice_get w.shelf w
 pub of_ran : (plan : Plan) (n : ℕ) (ms : List Local) (m : Local) → ran plan n ms ≡ m → (k : ℕ) (p : Published) → slice_get (reached m) k ≡ Some (Some p) → (slice_get (union (map reached ms)) k ≡ Some (Some p)) ⊎ (k ≡ n)
 unfolding ran
 of_ran plan n ms m e k p at =
-    let w : Setting = setting n (trees plan) (load_files (loads_of plan n)) plan.prelude plan.mode.dialect ms in
+    let w : Setting = setting n (trees plan) (load_files (loads_of plan n)) plan.prelude plan.mode.language ms in
     of_local w (run_file (by_names w) w most_levels (statements_of (trees plan) n) (start w plan.mode.steps)) m e k p at
 
 own : (plan : Plan) (d n : ℕ) (m : Local) → result plan d n ≡ Some m → (p : Published) → slice_get (reached m) n ≡ Some (Some p) → IsOwn plan n p

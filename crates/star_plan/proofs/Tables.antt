@@ -39,17 +39,17 @@ same_prelude files plan placed is same sound None at p e = sym e
 same_prelude files plan placed is same sound (Some q) at p (answer, parses, other, e) =
     let tree = sound q at in
     let read = sound_read (read_of plan q) tree.0 tree.1 in
-    let right : IsRead files (outside is.prelude plan.mode.dialect) q (Sound tree.0 read.0) = is.right q (Sound tree.0 read.0) read.1 in
+    let right : IsRead files (outside is.prelude plan.mode.language) q (Sound tree.0 read.0) = is.right q (Sound tree.0 read.0) read.1 in
     let one : answer ≡ Ok right.0 = one_answer (text_at files q) answer (Ok right.0) other (λ h. let no : ⊥ = cc in no) parses right.1 in
     let names : statements_in answer ≡ Some tree.0 = ap statements_in one ∙ ap Some right.2 in
     let there : option_flatten (slice_get (trees_of placed) q) ≡ Some tree.0 = ap (λ t. option_flatten (slice_get t q)) same ∙ (ap option_flatten (slice_get-map tree_in plan.reads q) ∙ (tree_flat (slice_get plan.reads q) ∙ tree.1)) in
     ap (λ z. let r : Prelude = record { file = q; names = prelude_names z } in Some r) (there ∙ sym names) ∙ sym e
 
-pub are_programs : (files : List File) (plan : Plan) (placed : Files) → IsPlanOf files plan → ArePlaced files plan placed → PreludeIsSound plan → ArePrograms placed plan.prelude plan.mode.dialect
+pub are_programs : (files : List File) (plan : Plan) (placed : Files) → IsPlanOf files plan → ArePlaced files plan placed → PreludeIsSound plan → ArePrograms placed plan.prelude plan.mode.language
 are_programs files plan placed is placed_so sound n f there =
     let same : prelude_in placed plan.prelude ≡ placed_so.prelude = same_prelude files plan placed is placed_so.statements sound plan.prelude refl placed_so.prelude placed_so.prelude_is in
     let one = placed_so.right n f there in
-    (one.2.0, one.0, one.1, subst (λ (o : Option Prelude). IsProgram n (outside o plan.mode.dialect) f.statements one.2.0 one.0) (sym same) one.2.3)
+    (one.2.0, one.0, one.1, subst (λ (o : Option Prelude). IsProgram n (outside o plan.mode.language) f.statements one.2.0 one.0) (sym same) one.2.3)
 
 pub tables_right : (files : List File) (plan : Plan) (placed : Files) → IsPlanOf files plan → ArePlaced files plan placed → PreludeIsSound plan
     → (n : ℕ) (ms : List Local) (file : ℕ) (ss : List Statement) → Stands (trees plan) file ss → IsResolved (tables_of placed) (given plan n ms) file ss
@@ -64,7 +64,7 @@ pub first_load : (files : List File) (plan : Plan) (is : IsPlanOf files plan) (n
     → (q : ℕ) → plan.prelude ≡ Some q → nat_eq q n ≡ false → (ns : List ℕ) × (loaded plan n ≡ q ∷ ns)
 first_load files plan is n ss e q prelude apart =
     let read = sound_read (read_of plan n) ss e in
-    let right : IsRead files (outside is.prelude plan.mode.dialect) n (Sound ss read.0) = is.right n (Sound ss read.0) read.1 in
+    let right : IsRead files (outside is.prelude plan.mode.language) n (Sound ss read.0) = is.right n (Sound ss read.0) read.1 in
     let there : IsPrelude files (Some q) is.prelude = subst (λ o. IsPrelude files o is.prelude) prelude is.prelude_is in
     let own : Prelude = record { file = q; names = prelude_names (statements_in there.0) } in
     let seen : seen_by n is.prelude ≡ Some own = ap (seen_by n) there.3 ∙ ap (λ b. let o : Option Prelude = if b then None else Some own in o) apart in

@@ -1,6 +1,7 @@
 -- Why a file whose loads fail does so.
 use Rattle.std.specs.Prelude.{◌≡◌, ◌⊎◌, ℕ, List, [], ◌∷◌, ◌++◌, Some, slice_get}
 use Rattle.star_meaning.specs.declared.fault.Fault.{Fault}
+use Rattle.star_meaning.specs.declared.said.Said.{Said}
 use Rattle.star_meaning.specs.Module.{Stopped}
 use Rattle.star_outline.specs.Definitions.{AllDiffer}
 use Rattle.star_plan.specs.Plan.{Plan, StaticFault, loaded}
@@ -23,7 +24,7 @@ Lead plan = LeadBy (FailsBy plan)
 abbrev pub HasFault : Plan → ℕ → Type 0
 HasFault plan n =
     ((f : StaticFault) × IsOutcome plan n (Static f))
-    ⊎ ((f : Fault) × (lines : List (List ℕ)) × IsOutcome plan n (Ran (Stopped f lines)))
+    ⊎ ((f : Fault) × (lines : List Said) × IsOutcome plan n (Ran (Stopped f lines)))
 
 -- the cause of a load that is not good: a file with a fault of its own, or a cycle of files
 pub data Cause : Type 0 where

@@ -6,6 +6,7 @@ use Rattle.star_scope.specs.Resolve.{outside}
 use Rattle.star_outline.specs.Definitions.{AllDiffer}
 use Rattle.star_cache.specs.Walk.{IsOnCycle, LeadsTo}
 use Rattle.star_cache.specs.State.{Loads}
+use Rattle.star_meaning.specs.declared.said.Said.{Said}
 use Rattle.star_meaning.specs.Module.{Good, Local, local, local_of, start}
 use Rattle.star_meaning.specs.Places.{AllFit, IsResolved, Stands}
 use Rattle.star_meaning.specs.Programs.{ArePrograms, Files, tables_of, trees_of}
@@ -111,7 +112,7 @@ abbrev pub ReadingsMakePlans : Type 0
 ReadingsMakePlans =
     (files : List File) (plan : Plan) (prelude : Option Prelude) → IsPrelude files plan.prelude prelude
     → length plan.reads ≡ length files
-    → ((n : ℕ) (r : Reading) → read_of plan n ≡ Some r → IsRead files (outside prelude plan.mode.dialect) n r
+    → ((n : ℕ) (r : Reading) → read_of plan n ≡ Some r → IsRead files (outside prelude plan.mode.language) n r
     × IsReached plan n)
     → ((n : ℕ) → Contains plan.roots n → (r : Reading) × (read_of plan n ≡ Some r))
     → ((n m : ℕ) (r : Reading) → read_of plan n ≡ Some r → Loads (loaded plan) n m → (q : Reading)
@@ -205,7 +206,7 @@ abbrev pub RunsLeaveOwn : Type 0
 RunsLeaveOwn =
     (plan : Plan) (n : ℕ) (ss : List Statement) (ms : List Local) → tree_in (read_of plan n) ≡ Some ss
     → AreGood plan (loaded plan n) ms
-    → (p : Published) (globals : List (List ℕ × Value)) (texts : List (List ℕ × List ℕ)) (lines : List (List ℕ))
+    → (p : Published) (globals : List (List ℕ × Value)) (texts : List (List ℕ × List ℕ)) (lines : List Said)
     → ran plan n ms ≡ Good (put_up n p (given plan n ms).shelf) globals texts lines → IsOwn plan n p
 
 -- a file without a static fault whose loads are good: its statements are among those of the programs, the programs are
@@ -215,7 +216,7 @@ PlansAreReady = (files : List File) (plan : Plan) (placed : Files) → IsPlanOf 
     → (n : ℕ) (ss : List Statement) (ms : List Local) → tree_in (read_of plan n) ≡ Some ss
     → AreGood plan (loaded plan n) ms
     → Stands (trees_of placed) n ss
-    × ArePrograms placed (given plan n ms).prelude plan.mode.dialect
+    × ArePrograms placed (given plan n ms).prelude plan.mode.language
     × AllFit (trees_of placed) (given plan n ms) (start (given plan n ms) plan.mode.steps)
     × IsOutcome plan n (Ran (local (given plan n ms) plan.mode.steps ss))
 

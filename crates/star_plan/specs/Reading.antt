@@ -25,7 +25,7 @@ IsPrelude files (Some n) p =
     (answer : Result Tree SyntaxFault) × Parses (text_at files n) answer × (answer ≢ Err syntax_fault.Memory)
     × (p ≡ Some (record { file = n; names = prelude_names (statements_in answer) }))
 
--- this is the reading of the file n, which sees this prelude or is it, in a dialect. Want of memory is not a reading
+-- this is the reading of the file n, which sees this prelude or is it, in a language. Want of memory is not a reading
 abbrev pub IsRead : List File → Outside → ℕ → Reading → Type 0
 IsRead files outside n (Faulty (OfText e)) = Parses (text_at files n) (Err e) × (e ≢ syntax_fault.Memory)
 IsRead files outside n (Faulty (OfNames e)) =
@@ -40,5 +40,5 @@ pub record IsPlanOf (files : List File) (plan : Plan) : Type 0 where
   pub prelude : Option Prelude
   pub prelude_is : IsPrelude files plan.prelude prelude
   pub size : length plan.reads ≡ length files
-  pub right : (n : ℕ) (r : Reading) → read_of plan n ≡ Some r → IsRead files (outside prelude plan.mode.dialect) n r
+  pub right : (n : ℕ) (r : Reading) → read_of plan n ≡ Some r → IsRead files (outside prelude plan.mode.language) n r
   pub reached : (n : ℕ) → IsReached plan n ↔ ((r : Reading) × (read_of plan n ≡ Some r))

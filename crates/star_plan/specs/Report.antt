@@ -6,17 +6,18 @@ use Rattle.star_scope.specs.declared.loads.Load.{Load}
 use Rattle.star_store.specs.declared.values.Value.{Value}
 use Rattle.star_store.specs.Store.{Shelf}
 use Rattle.star_meaning.specs.declared.fault.Fault.{Fault}
+use Rattle.star_meaning.specs.declared.said.Said.{Said}
 use Rattle.star_meaning.specs.Module.{Good, Stopped}
 use Rattle.star_plan.specs.Plan.{Plan, StaticFault, loads_of}
 use Rattle.star_plan.specs.Results.{IsOutcome, Static, Unloaded, Ran}
 use Rattle.star_plan.specs.Reached.{IsReached}
 use Rattle.star_plan.specs.Causes.{Cause, IsCause}
 
--- how a module ended, as it is reported: its globals with their texts and its lines, or its fault with its lines, or
+-- how a module ended, as it is reported: its globals with their texts and what it said, or its fault with that, or
 -- its static fault, or the cause and the line of its first load that is not good
 pub data Ended : Type 0 where
-  WentWell : List (List ℕ × List ℕ) → List (List ℕ) → Ended
-  HadFault : Fault → List (List ℕ) → Ended
+  WentWell : List (List ℕ × List ℕ) → List Said → Ended
+  HadFault : Fault → List Said → Ended
   HadStatic : StaticFault → Ended
   HadLoad : Cause → ℕ → Ended
 

@@ -7,6 +7,7 @@ use Rattle.star_tree.specs.declared.tree.Statement.{Statement}
 use Rattle.star_scope.specs.declared.program.Prelude.{Prelude}
 use Rattle.star_scope.specs.declared.program.Program.{Program}
 use Rattle.star_scope.specs.Resolve.{Resolves, outside}
+use Rattle.star_meaning.specs.declared.said.Said.{Said}
 use Rattle.star_meaning.specs.Local.{outlines, setting}
 use Rattle.star_meaning.specs.Module.{Ended, Good, Local, local, most_levels, run_file, start}
 use Rattle.star_meaning.specs.Places.{AllFit, Stands, by_places}
@@ -24,17 +25,17 @@ abbrev pub PreludeIsSound : Plan → Type 0
 PreludeIsSound plan = (q : ℕ) → plan.prelude ≡ Some q → (ss : List Statement) × (tree_in (read_of plan q) ≡ Some ss)
 
 -- a row of programs is the row of a plan of these files. It has the statements that were read. Each program is the
--- answer of `resolve` for the file of its number, which sees the plan's prelude or is it, in the plan's dialect
+-- answer of `resolve` for the file of its number, which sees the plan's prelude or is it, in the plan's language
 pub record ArePlaced (files : List File) (plan : Plan) (placed : Files) : Type 0 where
   pub prelude : Option Prelude
   pub prelude_is : IsPrelude files plan.prelude prelude
   pub statements : trees_of placed ≡ trees plan
   pub right : (n : ℕ) (f : PlacedFile) → file_in placed n ≡ Some f → (p : Program) × (placed_file p ≡ f)
-      × Resolves files n (outside prelude plan.mode.dialect) f.statements (Ok p)
+      × Resolves files n (outside prelude plan.mode.language) f.statements (Ok p)
 
 -- the environment of a file's run over the outcomes of its loads
 abbrev pub given : Plan → ℕ → List Local → Setting
-given plan n outcomes = setting n (trees plan) (load_files (loads_of plan n)) plan.prelude plan.mode.dialect outcomes
+given plan n outcomes = setting n (trees plan) (load_files (loads_of plan n)) plan.prelude plan.mode.language outcomes
 
 -- the run of a file over the outcomes of its loads
 abbrev pub run_with : (Setting → Variables) → Plan → ℕ → List Statement → List Local → Outcome Ended
@@ -59,7 +60,7 @@ given_over placed plan n shelf =
       shelf = shelf;
       loads = load_files (loads_of plan n);
       prelude = plan.prelude;
-      dialect = plan.mode.dialect;
+      language = plan.mode.language;
     }
 
 -- a file may run over a shelf: its statements are among those of the programs, the programs are right for the run, and
@@ -67,10 +68,10 @@ given_over placed plan n shelf =
 -- file's own
 pub record MayRun (plan : Plan) (placed : Files) (n : ℕ) (ss : List Statement) (shelf : Shelf) : Type 0 where
   pub stands : Stands (trees_of placed) n ss
-  pub programs : ArePrograms placed (given_over placed plan n shelf).prelude plan.mode.dialect
+  pub programs : ArePrograms placed (given_over placed plan n shelf).prelude plan.mode.language
   pub functions : AllFit (trees_of placed) (given_over placed plan n shelf)
       (start (given_over placed plan n shelf) plan.mode.steps)
   pub outcome : IsOutcome plan n (Ran (local (given_over placed plan n shelf) plan.mode.steps ss))
-  pub own : (p : Published) (globals : List (List ℕ × Value)) (texts : List (List ℕ × List ℕ)) (lines : List (List ℕ))
+  pub own : (p : Published) (globals : List (List ℕ × Value)) (texts : List (List ℕ × List ℕ)) (lines : List Said)
       → local (given_over placed plan n shelf) plan.mode.steps ss ≡ Good (put_up n p shelf) globals texts lines
       → IsOwn plan n p

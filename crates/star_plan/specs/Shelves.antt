@@ -4,6 +4,7 @@ use Rattle.star_cache.specs.Walk.{LeadsTo}
 use Rattle.star_cache.specs.State.{Loads}
 use Rattle.star_store.specs.declared.values.Value.{Value}
 use Rattle.star_store.specs.Store.{Published, Shelf}
+use Rattle.star_meaning.specs.declared.said.Said.{Said}
 use Rattle.star_meaning.specs.Module.{Good}
 use Rattle.star_plan.specs.Plan.{Plan, loaded}
 use Rattle.star_plan.specs.Results.{result}
@@ -14,7 +15,7 @@ pub record IsOwn (plan : Plan) (n : ℕ) (p : Published) : Type 0 where
   pub shelf : Shelf
   pub globals : List (List ℕ × Value)
   pub texts : List (List ℕ × List ℕ)
-  pub lines : List (List ℕ)
+  pub lines : List Said
   pub ended : result plan depth n ≡ Some (Good shelf globals texts lines)
   pub there : slice_get shelf n ≡ Some (Some p)
 

@@ -10,6 +10,8 @@ use Rattle.star_scope.specs.declared.error.ScopeFault.{ScopeFault}
 use Rattle.star_scope.specs.declared.error.ScopeFault.TheVariants as names
 use Rattle.star_meaning.specs.declared.fault.FaultCode.{FaultCode}
 use Rattle.star_meaning.specs.declared.fault.FaultCode.TheVariants as code
+use Rattle.star_meaning.specs.declared.said.Said.{Said}
+use Rattle.star_meaning.specs.declared.said.Said.TheVariants.{Call, Line}
 use Rattle.star_plan.specs.Causes.{Cause, Culprit, Cycle}
 use Rattle.star_plan.specs.Plan.{Plan, StaticFault, OfNames, OfText}
 use Rattle.star_plan.specs.Report.{Ended, HadFault, HadLoad, HadStatic, IsReport, Module, WentWell}
@@ -86,6 +88,12 @@ globals_data texts = object (fold with_global no_members texts)
 abbrev pub texts_data : List (List ℕ) → Data
 texts_data texts = array (items_of (map string texts))
 
+-- the lines among what was said
+abbrev pub lines_in : List Said → List (List ℕ)
+lines_in [] = []
+lines_in (Line t ∷ xs) = t ∷ lines_in xs
+lines_in (Call c ∷ xs) = lines_in xs
+
 -- a module that ended well: its globals, its label, its lines
 abbrev pub well_data : List ℕ → List (List ℕ × List ℕ) → List (List ℕ) → Data
 well_data label texts lines =
@@ -111,9 +119,9 @@ load_data files label (Cycle ns) line =
     ill_data (codes "cycle") (texts_data (map (label_at files) ns)) label line [] (codes "load")
 
 abbrev pub ended_data : List File → List ℕ → Ended → Data
-ended_data files label (WentWell texts lines) = well_data label texts lines
-ended_data files label (HadFault f lines) =
-    ill_data (codes "fault") (string (code_word f.code)) label f.line lines (codes "fault")
+ended_data files label (WentWell texts said) = well_data label texts (lines_in said)
+ended_data files label (HadFault f said) =
+    ill_data (codes "fault") (string (code_word f.code)) label f.line (lines_in said) (codes "fault")
 ended_data files label (HadStatic f) = static_data label f
 ended_data files label (HadLoad cause line) = load_data files label cause line
 

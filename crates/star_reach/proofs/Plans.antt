@@ -71,7 +71,7 @@ module _ (held : Held) (files : List File) (plan : Plan) (all : AreAllFiles held
   Reached n = IsReachedOf held (words_of files plan) (label_at files n)
 
   -- a load leads to the prelude or to a file that a load statement names
-  onward : (n m : ℕ) (r : Reading) → n < length files → IsRead files (outside is.prelude plan.mode.dialect) n r → Contains (map file (loads_in (Some r))) m → Reached n → Reached m
+  onward : (n m : ℕ) (r : Reading) → n < length files → IsRead files (outside is.prelude plan.mode.language) n r → Contains (map file (loads_in (Some r))) m → Reached n → Reached m
   onward n m (Faulty f) low right c so = absurd (to_in [] m c)
   onward n m (Sound ss loads) low right c so =
       let resolved = right.3.1 in

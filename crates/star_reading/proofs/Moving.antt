@@ -12,6 +12,7 @@ use Rattle.std.specs.contracts.impls.GlobalAllocator.TheImpl.{ghosts}
 use Rattle.star_flow.specs.contracts.search.Search as search_of
 use Rattle.star_flow.proofs.search.Search.TheSendSync as of_search
 use Rattle.boxcar.proofs.vec.Vec.TheSendSync as of_trees
+use Rattle.star_dialect.proofs.Language.TheSendSync as of_language
 use Rattle.star_label.proofs.files.Files.TheSendSync as of_labels
 use Rattle.star_lex.proofs.token.SyntaxFault.TheSendSync as of_syntax
 use Rattle.star_reading.proofs.Closures.{captured, closure_sync}
@@ -109,6 +110,7 @@ module _ (κ : NamedLft) where
 reader_sync : (κ ν : NamedLft) → IsSync (reader.the_row κ ν)
 reader_sync κ ν =
     let l = of_labels.the_sync in
+    let g = of_language.the_sync in
     let p = of_prelude.the_sync ν in
     let f = of_syntax.the_sync in
     let s = tree_send in

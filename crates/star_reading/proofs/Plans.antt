@@ -84,12 +84,12 @@ placed_at row n = ap option_flatten (slice_get-map placed_in row n) ∙ flat (sl
     flat (Some x) = refl
 
 -- the programs of a row are the programs of a plan with its readings
-pub placed_so : (files : List File) (roots : List ℕ) (block : Option Prelude) (row : Row) (plan : Plan) → readings row ≡ plan.reads → IsPrelude files plan.prelude block → IsRowOf files (outside block plan.mode.dialect) roots row → ArePlaced files plan (table_of row)
+pub placed_so : (files : List File) (roots : List ℕ) (block : Option Prelude) (row : Row) (plan : Plan) → readings row ≡ plan.reads → IsPrelude files plan.prelude block → IsRowOf files (outside block plan.mode.language) roots row → ArePlaced files plan (table_of row)
 placed_so files roots block row plan is prelude_is rows = record {
   prelude = block;
   prelude_is = prelude_is;
   statements = trees_are row ∙ ap (map tree_in) is;
-  right = λ n f e. resolved_at files (outside block plan.mode.dialect) n (read_at row n) f (place_is files (outside block plan.mode.dialect) row n rows.right) (sym (placed_at row n) ∙ e);
+  right = λ n f e. resolved_at files (outside block plan.mode.language) n (read_at row n) f (place_is files (outside block plan.mode.language) row n rows.right) (sym (placed_at row n) ∙ e);
 }
 
 read_as : (files : List File) (block : Outside) (n : ℕ) (q : Read) → IsReadAs files block n q → IsRead files block n (reading_of q)
@@ -106,10 +106,10 @@ some_read None r e = absurd (let no : ⊥ = cc in no)
 some_read (Some q) r e = refl
 
 -- the readings of a row are the plan of the files
-pub planned_so : (files : List File) (block : Option Prelude) (row : Row) (plan : Plan) → readings row ≡ plan.reads → IsPrelude files plan.prelude block → IsRowOf files (outside block plan.mode.dialect) plan.roots row → IsPlanOf files plan
+pub planned_so : (files : List File) (block : Option Prelude) (row : Row) (plan : Plan) → readings row ≡ plan.reads → IsPrelude files plan.prelude block → IsRowOf files (outside block plan.mode.language) plan.roots row → IsPlanOf files plan
 planned_so files block row plan is prelude_is rows = readings_make_plans files plan block prelude_is (ap length (sym is) ∙ (length-map row (option_map reading_of) ∙ rows.sized))
     (λ n r e. let there : option_map reading_of (read_at row n) ≡ Some r = sym (read_is plan row n is) ∙ e in
-    (read_there files (outside block plan.mode.dialect) n (read_at row n) r (place_is files (outside block plan.mode.dialect) row n rows.right) there, reached_in plan.roots row plan refl (λ k. loads_are plan row k is) n (rows.reached n (some_read (read_at row n) r there))))
+    (read_there files (outside block plan.mode.language) n (read_at row n) r (place_is files (outside block plan.mode.language) row n rows.right) there, reached_in plan.roots row plan refl (λ k. loads_are plan row k is) n (rows.reached n (some_read (read_at row n) r there))))
     (λ n h. known n (root_read row plan.roots n rows.closed h))
     (λ n m r e l. known m (load_read plan row n m is rows.closed l))
   where

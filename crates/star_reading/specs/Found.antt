@@ -1,7 +1,7 @@
 -- The files that were found and read so far, and at the end all that roots reach.
 use Rattle.std.specs.Prelude.{◌≡◌, ◌+◌, ◌<◌, ◌⊎◌, ℕ, Bool, true, false, List, [], ◌∷◌, ◌++◌, None, Option, length, All, IsSome, Contains, count_by, nat_eq, not, slice_index_or}
 use Rattle.std.specs.List.{list_any}
-use Rattle.star_dialect.specs.declared.Dialect.{Dialect}
+use Rattle.star_dialect.specs.declared.Language.{Language}
 use Rattle.star_dialect.specs.declared.Dialect.TheVariants.{Core}
 use Rattle.star_label.specs.Files.{File}
 use Rattle.star_scope.specs.declared.program.Prelude.{Prelude}
@@ -28,7 +28,7 @@ pub record IsClosed (row : Row) (roots : List ℕ) : Type 0 where
 -- the read files as a plan for roots. The reached files do not depend on its mode, and depend on the prelude only
 -- through the readings
 abbrev pub plan_by : List ℕ → Row → Plan
-plan_by roots row = record { roots = roots; prelude = None; mode = record { steps = 0; dialect = Core }; reads = readings row }
+plan_by roots row = record { roots = roots; prelude = None; mode = record { steps = 0; language = record { dialect = Core; recorded = [] } }; reads = readings row }
 
 abbrev pub IsReachedBy : List ℕ → Row → ℕ → Type 0
 IsReachedBy roots row n = IsReached (plan_by roots row) n
@@ -84,11 +84,11 @@ pub record IsRowOf (files : List File) (outside : Outside) (roots : List ℕ) (r
   pub reached : (n : ℕ) → IsSome (read_at row n) → IsReachedBy roots row n
 
 -- whatever is there for a file, by its number, is its reading: the prelude is this file
-abbrev pub AreKnown : List File → Option ℕ → Dialect → Row → Type 0
+abbrev pub AreKnown : List File → Option ℕ → Language → Row → Type 0
 AreKnown files prelude d row =
     (block : Option Prelude) → IsPrelude files prelude block → AreReadAs files (outside block d) row
 
--- the row is right for the files that see this prelude, and for the prelude itself, in a dialect
-abbrev pub IsReadOf : List File → List ℕ → Option ℕ → Dialect → Row → Type 0
+-- the row is right for the files that see this prelude, and for the prelude itself, in a language
+abbrev pub IsReadOf : List File → List ℕ → Option ℕ → Language → Row → Type 0
 IsReadOf files roots prelude d row =
     (block : Option Prelude) × IsPrelude files prelude block × IsRowOf files (outside block d) roots row

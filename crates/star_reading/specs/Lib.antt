@@ -5,3 +5,4 @@ pub mod Readings
 pub mod Found
 pub mod Ahead
 pub mod Listed
+pub mod Record

@@ -43,7 +43,7 @@ impl<'s, 't> Reader<'s, 't> {
     ) -> Result<Vec<usize>, AllocError>
         requires parses { AreParsesOf self.now.files.now self.now.parses.now }
         ensures { OnOk result
-            (StayReadings self.now.files.now (outside_seen self.now.prelude self.now.dialect) reads.old.items
+            (StayReadings self.now.files.now (outside_seen self.now.prelude self.now.language) reads.old.items
             reads.new.items) }
     {
         if n >= self.files.len() {
@@ -59,7 +59,7 @@ impl<'s, 't> Reader<'s, 't> {
     fn read_found<R: Wait>(&self, rt: &R, search: &Search, thread: usize) -> Readings<'t>
         requires parses { AreParsesOf self.now.files.now self.now.parses.now }
         ensures { IfOk result (λ reads.
-            AreAllReadAs self.now.files.now (outside_seen self.now.prelude self.now.dialect) reads.items) }
+            AreAllReadAs self.now.files.now (outside_seen self.now.prelude self.now.language) reads.items) }
     {
         let mut reads = Vec::new(self.alloc);
         let mut read = None;
@@ -77,7 +77,7 @@ impl<'s, 't> Reader<'s, 't> {
     fn read_share<R: Wait>(&self, rt: &R, search: &Search, thread: usize) -> Readings<'t>
         requires parses { AreParsesOf self.now.files.now self.now.parses.now }
         ensures { IfOk result (λ reads.
-            AreAllReadAs self.now.files.now (outside_seen self.now.prelude self.now.dialect) reads.items) }
+            AreAllReadAs self.now.files.now (outside_seen self.now.prelude self.now.language) reads.items) }
     {
         let reads = self.read_found(rt, search, thread);
         if reads.is_err() {
@@ -95,7 +95,7 @@ impl<'s, 't> Reader<'s, 't> {
     ) -> Result<Vec<Readings<'t>>, AllocError>
         requires parses { AreParsesOf self.now.files.now self.now.parses.now }
         ensures { IfOk result (λ shares.
-            AreSharesReadAs self.now.files.now (outside_seen self.now.prelude self.now.dialect) shares.items) }
+            AreSharesReadAs self.now.files.now (outside_seen self.now.prelude self.now.language) shares.items) }
     {
         thread::map_indices(
             rt,
@@ -104,7 +104,7 @@ impl<'s, 't> Reader<'s, 't> {
             &|thread: usize| -> Result<Vec<(usize, Read)>, AllocError>
                 requires { AreParsesOf self.now.files.now self.now.parses.now }
                 ensures { IfOk result (λ reads.
-                    AreAllReadAs self.entry.now.files.now (outside_seen self.entry.now.prelude self.entry.now.dialect)
+                    AreAllReadAs self.entry.now.files.now (outside_seen self.entry.now.prelude self.entry.now.language)
                     reads.items) }
             { self.read_share(rt, search, thread) },
         )
@@ -118,7 +118,7 @@ impl<'s, 't> Reader<'s, 't> {
     ) -> Result<Found<'t>, AllocError>
         requires parses { AreParsesOf self.now.files.now self.now.parses.now }
         ensures { IfOk result (λ ahead.
-            AreReadAs self.now.files.now (outside_seen self.now.prelude self.now.dialect) ahead.reads.items) }
+            AreReadAs self.now.files.now (outside_seen self.now.prelude self.now.language) ahead.reads.items) }
     {
         let count = self.files.len();
         let mut ahead = Found::new(self.alloc, count)?;
@@ -141,9 +141,9 @@ impl<'s, 't> Reader<'s, 't> {
         threads: usize,
     ) -> Result<Found<'t>, AllocError>
         requires parses { AreParsesOf self.now.files.now self.now.parses.now }
-        requires known { AreReadAs self.now.files.now (outside_seen self.now.prelude self.now.dialect) known.items }
+        requires known { AreReadAs self.now.files.now (outside_seen self.now.prelude self.now.language) known.items }
         ensures { IfOk result (λ ahead.
-            AreReadAs self.now.files.now (outside_seen self.now.prelude self.now.dialect) ahead.reads.items) }
+            AreReadAs self.now.files.now (outside_seen self.now.prelude self.now.language) ahead.reads.items) }
     {
         if known.iter().all(|read| read.is_none()) {
             return self.read_ahead(rt, threads);
@@ -164,10 +164,10 @@ impl<'s, 't> Reader<'s, 't> {
     ) -> Result<Read<'t>, AllocError>
         requires parses { AreParsesOf self.now.files.now self.now.parses.now }
         requires file { n < length self.now.files.now }
-        requires ahead { AreReadAs self.now.files.now (outside_seen self.now.prelude self.now.dialect)
+        requires ahead { AreReadAs self.now.files.now (outside_seen self.now.prelude self.now.language)
             ahead.old.reads.items }
-        ensures read { IfOk result (IsReadAs self.now.files.now (outside_seen self.now.prelude self.now.dialect) n) }
-        ensures ahead { AreReadAs self.now.files.now (outside_seen self.now.prelude self.now.dialect)
+        ensures read { IfOk result (IsReadAs self.now.files.now (outside_seen self.now.prelude self.now.language) n) }
+        ensures ahead { AreReadAs self.now.files.now (outside_seen self.now.prelude self.now.language)
             ahead.new.reads.items }
     {
         match ahead.take(n) {

@@ -10,7 +10,7 @@ ghost use Rattle.star_reading.specs.Readings.{AreReadAs, IsPlaceable};
 
 use crate::parses::{Parsed, parsed_once};
 use crate::reading::{Read, Reader, Reads, Trees};
-use star_dialect::Dialect;
+use star_dialect::Language;
 use star_label::files::Files as Labels;
 use star_scope::error::ScopeFault;
 use star_scope::program::Prelude;
@@ -36,15 +36,15 @@ pub fn prelude_over<'t>(
 }
 
 /// The texts of files: the files, the place of their trees, the texts that are parsed already, by the numbers of the
-/// files, and the dialect.
+/// files, and the language.
 #[derive(Clone, Copy)]
 pub struct Texts<'s, 't> {
     pub files: &'s Labels,
     pub trees: &'t Trees,
     /// None for a text that is not parsed yet.
     pub parses: &'s [Option<Parsed<'t>>],
-    /// The dialect in which they are written.
-    pub dialect: Dialect,
+    /// The language in which they are written.
+    pub language: &'s Language,
 }
 
 /// The prelude: its names are the names that its tree binds, and no names if its text does not parse. The tree is kept
@@ -95,13 +95,13 @@ fn read_by<'s, 't, R: Threads + Wait + Sync>(
     threads: usize,
 ) -> Result<Reads<'t>, AllocError>
     requires parses { AreParsesOf texts.files.now texts.parses.now }
-    requires known { AreReadAs texts.files.now (outside_seen prelude texts.dialect) known.all.items }
+    requires known { AreReadAs texts.files.now (outside_seen prelude texts.language) known.all.items }
     requires roots { Within texts.files.now roots.now }
     requires prelude { IfSome prelude (λ p. p.now.file < length texts.files.now) }
     ensures all { IfOk result (λ reads.
-        IsRowOf texts.entry.files.now (outside_seen prelude.entry texts.entry.dialect) roots.now reads.all.items) }
+        IsRowOf texts.entry.files.now (outside_seen prelude.entry texts.entry.language) roots.now reads.all.items) }
     ensures others { IfOk result (λ reads.
-        AreReadAs texts.entry.files.now (outside_seen prelude.entry texts.entry.dialect) reads.others.items) }
+        AreReadAs texts.entry.files.now (outside_seen prelude.entry texts.entry.language) reads.others.items) }
 {
     let reader = Reader {
         alloc,
@@ -109,14 +109,14 @@ fn read_by<'s, 't, R: Threads + Wait + Sync>(
         trees: &texts.trees.all,
         parses: texts.parses,
         prelude,
-        dialect: texts.dialect,
+        language: texts.language,
         roots,
     };
     let Reads { all, .. } = known;
     reader.read_all(rt, all, threads)
 }
 
-/// Reads all files that the roots reach, by at most `threads` threads: of each its program in a dialect, or its static
+/// Reads all files that the roots reach, by at most `threads` threads: of each its program in a language, or its static
 /// fault. The trees are kept in `trees`. The error: an allocation failed.
 pub fn read_files<'t, R: Threads + Wait + Sync>(
     rt: &R,
@@ -125,12 +125,12 @@ pub fn read_files<'t, R: Threads + Wait + Sync>(
     trees: &'t Trees,
     roots: &[usize],
     prelude: Option<usize>,
-    dialect: Dialect,
+    language: &Language,
     threads: usize,
 ) -> Result<Reads<'t>, AllocError>
     requires roots { Within files.now roots.now }
     requires prelude { IfSome prelude (λ n. n < length files.now) }
-    ensures read { IfOk result (λ reads. IsReadOf files.now roots.now prelude dialect reads.all.items) }
+    ensures read { IfOk result (λ reads. IsReadOf files.now roots.now prelude language.now reads.all.items) }
     ensures placeable { IfOk result (λ reads. All IsPlaceable reads.all.items) }
 {
     let none = Vec::new(alloc);
@@ -138,7 +138,7 @@ pub fn read_files<'t, R: Threads + Wait + Sync>(
         files,
         trees,
         parses: none.as_slice(),
-        dialect,
+        language,
     };
     let known = Reads::new(alloc);
     read_parsed(rt, alloc, texts, known, roots, prelude, threads)
@@ -157,13 +157,13 @@ pub fn read_parsed<'t, R: Threads + Wait + Sync>(
     threads: usize,
 ) -> Result<Reads<'t>, AllocError>
     requires parses { AreParsesOf texts.files.now texts.parses.now }
-    requires known { AreKnown texts.files.now prelude texts.dialect known.all.items }
+    requires known { AreKnown texts.files.now prelude texts.language.now known.all.items }
     requires roots { Within texts.files.now roots.now }
     requires prelude { IfSome prelude (λ n. n < length texts.files.now) }
-    ensures read { IfOk result (λ reads. IsReadOf texts.entry.files.now roots.now prelude texts.entry.dialect
+    ensures read { IfOk result (λ reads. IsReadOf texts.entry.files.now roots.now prelude texts.entry.language.now
         reads.all.items) }
     ensures placeable { IfOk result (λ reads. All IsPlaceable reads.all.items) }
-    ensures others { IfOk result (λ reads. AreKnown texts.entry.files.now prelude texts.entry.dialect
+    ensures others { IfOk result (λ reads. AreKnown texts.entry.files.now prelude texts.entry.language.now
         reads.others.items) }
 {
     let block = block_of(rt, alloc, texts, prelude)?;

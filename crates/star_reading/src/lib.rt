@@ -17,4 +17,5 @@ pub mod code;
 pub mod files;
 pub mod parses;
 pub mod reading;
+pub mod record;
 pub mod roots;

@@ -13,7 +13,7 @@ ghost use Rattle.star_reading.specs.Readings.{AreReadAs, IsReadAs, loads_at, loa
 
 use crate::code::{StaticFault, of_scope, of_syntax};
 use crate::parses::{Parsed, parsed_once};
-use star_dialect::Dialect;
+use star_dialect::Language;
 use star_label::files::Files as Labels;
 use star_scope::loads::Load;
 use star_scope::program::{Prelude, Program, resolve};
@@ -89,7 +89,7 @@ impl<'t> Reads<'t> {
     /// Takes the results of reading other files in, each at its place if none is there.
     pub fn take_others(&mut self)
         // It is long since it is about three rows.
-        ensures { (files : List File) (prelude : Option ℕ) (d : Dialect) → AreKnown files prelude d self.old.all.items
+        ensures { (files : List File) (prelude : Option ℕ) (d : Language) → AreKnown files prelude d self.old.all.items
             → AreKnown files prelude d self.old.others.items → AreKnown files prelude d self.new.all.items }
     {
         for n in 0..self.others.len() {
@@ -115,20 +115,20 @@ pub fn loads_in<'s, 't>(reads: &'s [Option<Read<'t>>], n: usize) -> &'s [Load]
     }
 }
 
-/// The result of resolving the tree of a file, which sees this prelude, in a dialect. The error: an allocation failed.
+/// The result of resolving the tree of a file, which sees this prelude, in a language. The error: an allocation failed.
 pub fn resolved<'t>(
     alloc: Global,
     files: &Labels,
     prelude: Option<&Prelude<'t>>,
-    dialect: Dialect,
+    language: &Language,
     n: usize,
     tree: &'t Tree,
 ) -> Result<Read<'t>, AllocError>
     requires file { n < length files.now }
     requires tree { Parses (text_at files.now n) (Ok tree.now) }
-    ensures { IfOk result (IsReadAs files.now (outside_seen prelude.entry dialect) n) }
+    ensures { IfOk result (IsReadAs files.now (outside_seen prelude.entry language.entry) n) }
 {
-    match resolve(alloc, files, n, tree, prelude, dialect) {
+    match resolve(alloc, files, n, tree, prelude, language) {
         Ok(program) => Ok(Read::Program(program)),
         Err(fault) => match of_scope(fault) {
             Some(fault) => Ok(Read::Fault(fault)),
@@ -138,7 +138,7 @@ pub fn resolved<'t>(
 }
 
 /// All that is needed to read files: their texts, the place of their trees, the texts that are parsed already, the
-/// prelude, the dialect, and the roots.
+/// prelude, the language, and the roots.
 #[derive(Drop)]
 pub struct Reader<'s, 't> {
     pub alloc: Global,
@@ -147,7 +147,7 @@ pub struct Reader<'s, 't> {
     /// The results of parsing texts, by the numbers of their files; none for a text that is not parsed yet.
     pub parses: &'s [Option<Parsed<'t>>],
     pub prelude: Option<&'s Prelude<'t>>,
-    pub dialect: Dialect,
+    pub language: &'s Language,
     pub roots: &'s [usize],
 }
 
@@ -156,10 +156,10 @@ impl<'s, 't> Reader<'s, 't> {
     pub(crate) fn read<R: Wait>(&self, rt: &R, n: usize) -> Result<Read<'t>, AllocError>
         requires parses { AreParsesOf self.now.files.now self.now.parses.now }
         requires file { n < length self.now.files.now }
-        ensures { IfOk result (IsReadAs self.now.files.now (outside_seen self.now.prelude self.now.dialect) n) }
+        ensures { IfOk result (IsReadAs self.now.files.now (outside_seen self.now.prelude self.now.language) n) }
     {
         match parsed_once(rt, self.alloc, self.files, self.trees, self.parses, n)? {
-            Ok(tree) => resolved(self.alloc, self.files, self.prelude, self.dialect, n, tree),
+            Ok(tree) => resolved(self.alloc, self.files, self.prelude, self.language, n, tree),
             Err(fault) => match of_syntax(fault) {
                 Some(fault) => Ok(Read::Fault(fault)),
                 None => unreachable!(),
@@ -176,19 +176,19 @@ impl<'s, 't> Reader<'s, 't> {
         n: usize,
     ) -> Result<(), AllocError>
         requires parses { AreParsesOf self.now.files.now self.now.parses.now }
-        requires ahead { AreReadAs self.now.files.now (outside_seen self.now.prelude self.now.dialect)
+        requires ahead { AreReadAs self.now.files.now (outside_seen self.now.prelude self.now.language)
             ahead.old.reads.items }
         requires file { n < length self.now.files.now }
         requires prelude { IfSome self.now.prelude (λ p. p.now.file < length self.now.files.now) }
-        requires found { HasFoundWith self.now.files.now (outside_seen self.now.prelude self.now.dialect)
+        requires found { HasFoundWith self.now.files.now (outside_seen self.now.prelude self.now.language)
             self.now.roots.now found.old
             n }
         ensures found { OnOk result
-            (HasFound self.now.files.now (outside_seen self.now.prelude self.now.dialect) self.now.roots.now
+            (HasFound self.now.files.now (outside_seen self.now.prelude self.now.language) self.now.roots.now
             found.new) }
         ensures left { OnOk result (left_of found.new.marks.items found.new.todo.items
             ≡ left_of found.old.marks.items found.old.todo.items) }
-        ensures ahead { AreReadAs self.now.files.now (outside_seen self.now.prelude self.now.dialect)
+        ensures ahead { AreReadAs self.now.files.now (outside_seen self.now.prelude self.now.language)
             ahead.new.reads.items }
     {
         if found.is_read(n) {
@@ -212,11 +212,11 @@ impl<'s, 't> Reader<'s, 't> {
         requires parses { AreParsesOf self.now.files.now self.now.parses.now }
         requires roots { Within self.now.files.now self.now.roots.now }
         requires prelude { IfSome self.now.prelude (λ p. p.now.file < length self.now.files.now) }
-        requires known { AreReadAs self.now.files.now (outside_seen self.now.prelude self.now.dialect) known.items }
-        ensures all { IfOk result (λ reads. IsRowOf self.now.files.now (outside_seen self.now.prelude self.now.dialect)
+        requires known { AreReadAs self.now.files.now (outside_seen self.now.prelude self.now.language) known.items }
+        ensures all { IfOk result (λ reads. IsRowOf self.now.files.now (outside_seen self.now.prelude self.now.language)
             self.now.roots.now reads.all.items) }
         ensures others { IfOk result (λ reads.
-            AreReadAs self.now.files.now (outside_seen self.now.prelude self.now.dialect) reads.others.items) }
+            AreReadAs self.now.files.now (outside_seen self.now.prelude self.now.language) reads.others.items) }
     {
         let mut ahead = self.read_before(rt, known, threads)?;
         let mut found = Found::from_roots(self.alloc, self.files, self.roots)?;

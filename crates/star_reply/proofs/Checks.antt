@@ -77,5 +77,5 @@ one_check plan ms ks x y =
     let us : List ℕ = map (λ (m : Module). m.file) ks in
     same_modules plan ms ks (same_rising ns us (AllPairs-from_increasing ns x.in_order) (AllPairs-from_increasing us y.in_order) (λ n h. (y.all n).0 ((x.all n).1 h)) (λ n h. (x.all n).0 ((y.all n).1 h))) x.each y.each
 
-pub one_check_text : (only_roots : Bool) (files : List File) (plan : Plan) (a b : List ℕ) → IsCheckText only_roots files plan a → IsCheckText only_roots files plan b → a ≡ b
-one_check_text only_roots files plan a b (ms, x, e) (ks, y, g) = e ∙ (ap (check_text only_roots files plan.roots) (one_check plan ms ks x y) ∙ sym g)
+pub one_check_text : (only_roots calls : Bool) (files : List File) (plan : Plan) (a b : List ℕ) → IsCheckText only_roots calls files plan a → IsCheckText only_roots calls files plan b → a ≡ b
+one_check_text only_roots calls files plan a b (ms, x, e) (ks, y, g) = e ∙ (ap (check_text only_roots calls files plan.roots) (one_check plan ms ks x y) ∙ sym g)

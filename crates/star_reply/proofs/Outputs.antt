@@ -8,13 +8,17 @@ use Rattle.star_label.specs.Files.{File}
 use Rattle.star_cache.specs.State.{Loads}
 use Rattle.star_cache.specs.Walk.{IsOnCycle}
 use Rattle.star_plan.specs.Plan.{Plan, loaded}
+use Rattle.star_meaning.specs.Module.{Good}
+use Rattle.star_meaning.specs.declared.said.Said.{Said}
+use Rattle.star_plan.specs.Results.{Outcome, Ran}
 use Rattle.star_plan.proofs.Outcomes.{one-outcome}
+use Rattle.star_report.specs.Calls.{AreCalls, HasFailed, HasSaid, IsFirstNotOk, IsNotOk, SaidBy, calls_from, label_json}
 use Rattle.star_report.specs.Got.{AreGot, HasGot, IsFirstLack, got_of, got_text}
 use Rattle.star_report.specs.Graph.{IsGraph, IsGraphText, IsNode, Node, graph_text}
 use Rattle.star_report.specs.Output.{IsAnswer, IsOutput}
 use Rattle.star_report.specs.declared.got.Lack.{Lack}
 use Rattle.star_report.specs.declared.wanted.Output.{Output}
-use Rattle.star_report.specs.declared.wanted.Output.TheVariants.{Check, Global, Graph, Report}
+use Rattle.star_report.specs.declared.wanted.Output.TheVariants.{Calls, Check, Global, Graph, Report}
 use Rattle.star_report.proofs.OneText.{one_full_text}
 use Rattle.star_reply.proofs.Checks.{one_check_text}
 use Rattle.star_plan.proofs.Rising.{same_rising}
@@ -49,6 +53,39 @@ no_lack plan name roots ds n why are lack =
     let both : Ok there.0 ≡ Err why = one_has plan name n (Ok there.0) (Err why) there.1 lack.lacks in
     let no : ⊥ = cc in
     no
+
+-- ---- calls
+
+calls_as : (o : Outcome) (cs ds : List Said) → SaidBy o cs → SaidBy o ds → cs ≡ ds
+calls_as (Ran (Good shelf globals texts said)) cs ds h k = h ∙ sym k
+calls_as o cs ds h k = absurd h
+
+not_both : (o : Outcome) (cs : List Said) → SaidBy o cs → IsNotOk o → ⊥
+not_both (Ran (Good shelf globals texts said)) cs h k = k
+not_both o cs h k = absurd h
+
+same_calls : (plan : Plan) (n : ℕ) (cs ds : List Said) → HasSaid plan n cs → HasSaid plan n ds → cs ≡ ds
+same_calls plan n cs ds (o, x, h) (p, y, k) = calls_as p cs ds (subst (λ q. SaidBy q cs) (one-outcome plan n o p x y) h) k
+
+one_calls : (files : List File) (plan : Plan) (name ns a b : List ℕ) → AreCalls files plan name ns a → AreCalls files plan name ns b → a ≡ b
+one_calls files plan name [] a b h k = h ∙ sym k
+one_calls files plan name (n ∷ ns) a b (cs, more, has, rest, is) (ds, other, too, left, also) =
+    is
+    ∙ ap (λ (xs : List Said). calls_from (label_json files n) name xs ++ more) (same_calls plan n cs ds has too)
+    ∙ ap (λ t. calls_from (label_json files n) name ds ++ t) (one_calls files plan name ns more other rest left)
+    ∙ sym also
+
+calls_at : (files : List File) (plan : Plan) (name before : List ℕ) (n : ℕ) (after text : List ℕ) → AreCalls files plan name (before ++ n ∷ after) text → (cs : List Said) × HasSaid plan n cs
+calls_at files plan name [] n after text (cs, more, has, rest, is) = (cs, has)
+calls_at files plan name (x ∷ before) n after text (cs, more, has, rest, is) = calls_at files plan name before n after more rest
+
+ok_and_not : (plan : Plan) (n : ℕ) (cs : List Said) → HasSaid plan n cs → HasFailed plan n → ⊥
+ok_and_not plan n cs (o, x, h) (p, y, k) = not_both p cs (subst (λ q. SaidBy q cs) (one-outcome plan n o p x y) h) k
+
+no_failed : (files : List File) (plan : Plan) (name roots text : List ℕ) (n : ℕ) → AreCalls files plan name roots text → IsFirstNotOk files plan name roots n → ⊥
+no_failed files plan name roots text n are first =
+    let there = calls_at files plan name first.before n first.after text (subst (λ ns. AreCalls files plan name ns text) first.files_are are) in
+    ok_and_not plan n there.0 there.1 first.lacks
 
 -- ---- graphs
 
@@ -108,5 +145,9 @@ one_output (Global name) files plan a b true true (ds, x, e) (es, y, g) = (e ∙
 one_output (Global name) files plan a b true false (ds, x, e) ((n, why, y), g) = absurd (no_lack plan (string_bytes name) plan.roots ds n why x y)
 one_output (Global name) files plan a b false true ((n, why, x), e) (ds, y, g) = absurd (no_lack plan (string_bytes name) plan.roots ds n why y x)
 one_output (Global name) files plan a b false false (x, e) (y, g) = (e ∙ sym g, refl)
+one_output (Calls name) files plan a b true true h k = (one_calls files plan (string_bytes name) plan.roots a b h k, refl)
+one_output (Calls name) files plan a b true false h ((n, k), g) = absurd (no_failed files plan (string_bytes name) plan.roots a n h k)
+one_output (Calls name) files plan a b false true ((n, h), e) k = absurd (no_failed files plan (string_bytes name) plan.roots b n k h)
+one_output (Calls name) files plan a b false false (x, e) (y, g) = (e ∙ sym g, refl)
 one_output Graph files plan a b ok well h k = (one_graph_text files plan a b h.0 k.0, one_reply plan ok well h.1 k.1)
-one_output (Check only_roots) files plan a b ok well h k = (one_check_text only_roots files plan a b h.0 k.0, same_test ok well h.1 k.1)
+one_output (Check only_roots calls) files plan a b ok well h k = (one_check_text only_roots calls files plan a b h.0 k.0, same_test ok well h.1 k.1)

@@ -71,6 +71,7 @@ refuses_all count size all front error.NoPrelude q h = h
 refuses_all count size all front error.Memory q h = h
 refuses_all count size all front error.Write q h = h
 refuses_all count size all front error.Unpublished q h = h
+refuses_all count size all front error.BadRecord q h = elim h [ ]
 
 stands_so : (held : Held) (l bytes : List ℕ) (e : ServeError) → held l ≡ Some bytes → Stands held l bytes e
 stands_so held l bytes error.BadFile h = tt

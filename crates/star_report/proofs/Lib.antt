@@ -22,3 +22,5 @@ pub mod Edges
 pub mod Lines
 pub mod Told
 pub mod Reported
+mod SaidRows
+mod CallRows

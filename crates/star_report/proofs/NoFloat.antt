@@ -28,7 +28,7 @@ use Rattle.star_report.specs.declared.wanted.Wanted.{Wanted}
 use Rattle.star_plan.specs.Causes.{Cause, Culprit, Cycle}
 use Rattle.star_plan.specs.Report.{Ended, HadFault, HadLoad, HadStatic, Module, WentWell}
 use Rattle.star_outcome.proofs.NoFloat.{globals_none, put_none}
-use Rattle.star_plan.specs.Text.{code_word, ended_data, ill_data, load_data, module_data, static_line, static_word, texts_data, well_data}
+use Rattle.star_plan.specs.Text.{code_word, ended_data, ill_data, lines_in, load_data, module_data, static_line, static_word, texts_data, well_data}
 
 put_text : (k s : List ℕ) (ms : Members) → members_have_float ms ≡ false → members_have_float (put k (string s) ms) ≡ false
 put_text k s ms h = put_none k (string s) ms refl h
@@ -48,8 +48,8 @@ load_none files label (Culprit n) line = ill_none (codes "cause") (string (label
 load_none files label (Cycle ns) line = ill_none (codes "cycle") (texts_data (map (label_at files) ns)) label line [] (codes "load") (texts_none (map (label_at files) ns))
 
 ended_none : (files : List File) (label : List ℕ) (e : Ended) → has_float (ended_data files label e) ≡ false
-ended_none files label (WentWell texts lines) = well_none label texts lines
-ended_none files label (HadFault f lines) = ill_none (codes "fault") (string (code_word f.code)) label f.line lines (codes "fault") refl
+ended_none files label (WentWell texts said) = well_none label texts (lines_in said)
+ended_none files label (HadFault f said) = ill_none (codes "fault") (string (code_word f.code)) label f.line (lines_in said) (codes "fault") refl
 ended_none files label (HadStatic f) = ill_none (codes "fault") (string (static_word f)) label (static_line f) [] (codes "static") refl
 ended_none files label (HadLoad cause line) = load_none files label cause line
 

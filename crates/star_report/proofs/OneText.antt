@@ -13,7 +13,7 @@ use Rattle.star_plan.specs.Report.{Module}
 use Rattle.star_plan.proofs.Outcomes.{one-outcome}
 use Rattle.star_plan.proofs.Reports.{one-report}
 use Rattle.star_report.specs.Values.{value_members}
-use Rattle.star_report.specs.Wanted.{AreMore, AreWanted, Full, HasLoads, HasSteps, HasStepsAs, HasValues, followed, full_text}
+use Rattle.star_report.specs.Wanted.{AreMore, AreWanted, Full, HasLoads, HasSteps, HasStepsAs, HasValues, followed, whole_text}
 use Rattle.star_report.specs.Laws.{OneFullText}
 use Rattle.star_report.specs.declared.wanted.Wanted.{Wanted}
 
@@ -90,4 +90,4 @@ pub one_full_text : OneFullText
 one_full_text wanted files plan a b x y =
     let same = one-report plan x.begun y.begun (modules_in x.fulls) (modules_in y.fulls) x.report y.report in
     let fulls : x.fulls ≡ y.fulls = same_fulls wanted files plan x.fulls y.fulls same.1 x.more y.more in
-    x.text_is ∙ (ap (λ n. full_text wanted files plan n x.fulls) same.0 ∙ (ap (full_text wanted files plan y.begun) fulls ∙ sym y.text_is))
+    x.text_is ∙ (ap (λ n. whole_text wanted.calls wanted files plan n x.fulls) same.0 ∙ (ap (whole_text wanted.calls wanted files plan y.begun) fulls ∙ sym y.text_is))

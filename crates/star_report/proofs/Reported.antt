@@ -10,7 +10,8 @@ use Rattle.star_outcome.proofs.Lent.{written_back}
 use Rattle.star_reading.specs.Found.{AreMarked, IsReadOf}
 use Rattle.star_reading.specs.Readings.{Row, readings}
 use Rattle.star_report.specs.Fails.{AreFails}
-use Rattle.star_report.specs.Pages.{AreWritten, HasItsLoads, SaysShown, joined_text, known_of, shown_texts_of}
+use Rattle.star_report.specs.Joined.{joined_text}
+use Rattle.star_report.specs.Pages.{AreWritten, HasItsLoads, SaysShown, known_of, shown_texts_of}
 use Rattle.star_report.specs.Shown.{IsReportBut, ReportsRun}
 use Rattle.star_report.specs.declared.pages.Page.{Page}
 use Rattle.star_report.specs.declared.wanted.Wanted.{Wanted}
@@ -31,7 +32,7 @@ run_reported wanted files row roots run after nexts fails marks old lent wrote r
     let of_new : AreWritten wanted files nexts old new = subst (AreWritten wanted files nexts old) (sym is) of_old in
     let as_long : length new ≡ length old = ap length is ∙ (whole ∙ ap length lent_is) in
     IfOk-weaker r _ _ (λ s h plan planned of_roots was_read are.
-    let read : readings row ≡ plan.reads = read_plan files row plan ordered planned (subst (λ rs. IsReadOf files rs plan.prelude plan.mode.dialect row) (sym of_roots) was_read) in
+    let read : readings row ≡ plan.reads = read_plan files row plan ordered planned (subst (λ rs. IsReadOf files rs plan.prelude plan.mode.language row) (sym of_roots) was_read) in
     subst (λ b. IsReportBut wanted files plan (length run.kept) b s.items) (begun_is ∙ ap (λ (x : RunView). x.begun) same)
     (pages_text wanted files row plan nexts run.kept old new begun s.items known_in (subst (λ rs. All (SaysShown wanted rs) old) (sym of_roots) (shown roots marked)) loads of_new as_long h.0 h.1 planned read are (subst (AreNextsOf plan) (sym nexts_are) (failing files plan planned are))))
     (both_ok r _ _ some text)

@@ -16,12 +16,15 @@ use Rattle.star_label.specs.Files.{File}
 use Rattle.star_plan.specs.Plan.{Plan}
 use Rattle.star_plan.specs.Reading.{IsPlanOf}
 use Rattle.star_outcome.specs.Kept.{AreModules, KeptView}
-use Rattle.star_report.specs.Pages.{AreWritten, HasItsLoads, IsTextOf, SaysShown, joined_text, known_of, listed, page_text, shown_texts_of, text_in}
+use Rattle.star_meaning.specs.declared.said.RecordedCall.{RecordedCall}
+use Rattle.star_report.specs.Calls.{calls_by, calls_of, with_calls}
+use Rattle.star_report.specs.Joined.{joined_text, listed}
+use Rattle.star_report.specs.Pages.{AreWritten, HasItsLoads, IsTextOf, IsWholeTextOf, SaysShown, known_of, page_text, shown_texts_of, text_in}
 use Rattle.star_report.specs.Shown.{AreShown, IsReportBut}
 use Rattle.star_outcome.specs.declared.module.Module.{Module}
 use Rattle.star_report.specs.declared.pages.Page.{Page}
 use Rattle.star_report.specs.Shelf.{more_of}
-use Rattle.star_report.specs.Wanted.{Full, added, full_data, full_text, is_shown, is_shown_by}
+use Rattle.star_report.specs.Wanted.{Full, added, full_data, full_row, full_text, is_shown, is_shown_by, whole_text}
 use Rattle.star_outcome.specs.Views.{ended_well}
 use Rattle.star_report.specs.declared.wanted.Wanted.{Wanted}
 use Rattle.star_report.proofs.NoFloat.{fulls_none}
@@ -108,39 +111,56 @@ report_joined wanted files plan begun fs =
 
 -- ---- the pages of modules
 
--- data whose texts these are, if they have no float
-abbrev AreTextsOf : List (List ℕ) → List Data → Type 0
-AreTextsOf [] [] = Unit {0}
-AreTextsOf [] (d ∷ ds) = ⊥
-AreTextsOf (t ∷ ts) [] = ⊥
-AreTextsOf (t ∷ ts) (d ∷ ds) = (has_float d ≡ false → t ≡ compact_text d) × AreTextsOf ts ds
+-- data whose texts these are, if they have no float, with the calls of each if they are wanted
+abbrev Calls : Type 0
+Calls = List (List RecordedCall)
 
-texts_push : (ts : List (List ℕ)) (ds : List Data) (t : List ℕ) (d : Data) → AreTextsOf ts ds → (has_float d ≡ false → t ≡ compact_text d) → AreTextsOf (ts ++ t ∷ []) (ds ++ d ∷ [])
-texts_push [] [] t d are is = (is, tt)
-texts_push [] (e ∷ ds) t d are is = absurd are
-texts_push (s ∷ ts) [] t d are is = absurd are
-texts_push (s ∷ ts) (e ∷ ds) t d are is = (are.0, texts_push ts ds t d are.1 is)
+abbrev AreTextsOf : Bool → List (List ℕ) → Calls → List Data → Type 0
+AreTextsOf b [] [] [] = Unit {0}
+AreTextsOf b (t ∷ ts) (c ∷ cs) (d ∷ ds) = (has_float d ≡ false → t ≡ with_calls b c (compact_text d)) × AreTextsOf b ts cs ds
+AreTextsOf b _ _ _ = ⊥
+
+texts_push : (b : Bool) (ts : List (List ℕ)) (cs : Calls) (ds : List Data) (t : List ℕ) (c : List RecordedCall) (d : Data) → AreTextsOf b ts cs ds → (has_float d ≡ false → t ≡ with_calls b c (compact_text d)) → AreTextsOf b (ts ++ t ∷ []) (cs ++ c ∷ []) (ds ++ d ∷ [])
+texts_push b [] [] [] t c d are is = (is, tt)
+texts_push b (s ∷ ts) (f ∷ cs) (e ∷ ds) t c d are is = (are.0, texts_push b ts cs ds t c d are.1 is)
+texts_push b [] [] (e ∷ ds) t c d are is = absurd are
+texts_push b [] (f ∷ cs) ds t c d are is = absurd are
+texts_push b (s ∷ ts) [] ds t c d are is = absurd are
+texts_push b (s ∷ ts) (f ∷ cs) [] t c d are is = absurd are
 
 first_none : (d : Data) (ds : List Data) → items_have_float (items_of (d ∷ ds)) ≡ false → (has_float d ≡ false) × (items_have_float (items_of ds) ≡ false)
 first_none d ds h = or_parts (has_float d) (items_have_float (items_of ds)) h
 
-texts_are : (ts : List (List ℕ)) (ds : List Data) → AreTextsOf ts ds → items_have_float (items_of ds) ≡ false → ts ≡ map compact_text ds
-texts_are [] [] are none = refl
-texts_are [] (d ∷ ds) are none = absurd are
-texts_are (t ∷ ts) [] are none = absurd are
-texts_are (t ∷ ts) (d ∷ ds) are none =
-    let both = first_none d ds none in
-    ap (λ x. x ∷ ts) (are.0 both.0) ∙ ap (λ xs. compact_text d ∷ xs) (texts_are ts ds are.1 both.1)
+texts_are : (wanted : Wanted) (files : List File) (ts : List (List ℕ)) (fs : List Full) → AreTextsOf wanted.calls ts (map (λ (f : Full). calls_by f.shown.ended) fs) (map (full_data files) fs) → items_have_float (items_of (map (full_data files) fs)) ≡ false → ts ≡ map (full_row wanted files) fs
+texts_are wanted files [] [] are none = refl
+texts_are wanted files [] (f ∷ fs) are none = absurd are
+texts_are wanted files (t ∷ ts) [] are none = absurd are
+texts_are wanted files (t ∷ ts) (f ∷ fs) are none =
+    let both = first_none (full_data files f) (map (full_data files) fs) none in
+    ap (λ x. x ∷ ts) (are.0 both.0) ∙ ap (λ xs. full_row wanted files f ∷ xs) (texts_are wanted files ts fs are.1 both.1)
+
+-- the text of a report, with the calls if they are wanted
+rows_plain : (b : Bool) (wanted : Wanted) (files : List File) (fs : List Full) → wanted.calls ≡ b → b ≡ false → map (full_row wanted files) fs ≡ map compact_text (map (full_data files) fs)
+rows_plain b wanted files [] is none = refl
+rows_plain b wanted files (f ∷ fs) is none = ap (λ c. with_calls c (calls_by f.shown.ended) (compact_text (full_data files f)) ∷ map (full_row wanted files) fs) (is ∙ none) ∙ ap (λ ts. compact_text (full_data files f) ∷ ts) (rows_plain b wanted files fs is none)
+
+whole_joined : (b : Bool) (wanted : Wanted) (files : List File) (plan : Plan) (begun : ℕ) (fs : List Full) → wanted.calls ≡ b → joined_text begun (map (full_row wanted files) (filter (is_shown wanted plan) fs)) ≡ whole_text b wanted files plan begun fs
+whole_joined true wanted files plan begun fs is = refl
+whole_joined false wanted files plan begun fs is = ap (joined_text begun) (rows_plain false wanted files (filter (is_shown wanted plan) fs) is refl) ∙ sym (report_joined wanted files plan begun fs)
+
+-- the calls of the module of a page
+abbrev page_calls : Page → List RecordedCall
+page_calls p = calls_of p.about.now.ended
 
 -- a page that has the text of its module
 abbrev pub HasText : Wanted → List File → Nexts → Page → Type 0
-HasText wanted files nexts p = IfSome p.text (λ s. IsTextOf wanted files nexts p.loads.now p.about.now s.items) × IsSome p.text
+HasText wanted files nexts p = IfSome p.text (λ s. IsWholeTextOf wanted files nexts p.loads.now p.about.now s.items) × IsSome p.text
 
-in_page : {Z : Type 0} (wanted : Wanted) (files : List File) (nexts : Nexts) (loads : List Load) (m : Module) (o : Option (Vec ℕ Z)) → IfSome o (λ s. IsTextOf wanted files nexts loads m s.items) → IsSome o → IsTextOf wanted files nexts loads m (text_in o)
+in_page : {Z : Type 0} (wanted : Wanted) (files : List File) (nexts : Nexts) (loads : List Load) (m : Module) (o : Option (Vec ℕ Z)) → IfSome o (λ s. IsWholeTextOf wanted files nexts loads m s.items) → IsSome o → IsWholeTextOf wanted files nexts loads m (text_in o)
 in_page wanted files nexts loads m None is some = absurd (true≢false (sym some))
 in_page wanted files nexts loads m (Some s) is some = is
 
-text_of_page : (wanted : Wanted) (files : List File) (nexts : Nexts) (p : Page) → HasText wanted files nexts p → IsTextOf wanted files nexts p.loads.now p.about.now (page_text p)
+text_of_page : (wanted : Wanted) (files : List File) (nexts : Nexts) (p : Page) → HasText wanted files nexts p → IsWholeTextOf wanted files nexts p.loads.now p.about.now (page_text p)
 text_of_page wanted files nexts p h = in_page wanted files nexts p.loads.now p.about.now p.text h.0 h.1
 
 element : {X : Type 0} (xs : List X) (i : ℕ) → i < length xs → (x : X) × ((d : X) → get_or xs i d ≡ x)
@@ -199,7 +219,7 @@ filtered f p g q (x ∷ xs) (y ∷ ys) same kept =
 module _ (wanted : Wanted) (files : List File) (row : Row) (plan : Plan) (nexts : Nexts) (ks : List KeptView) (ps : List Page) where
   -- the modules of the first pages are shown, with their texts
   abbrev Shown : ℕ → Type 0
-  Shown i = (ds : List Data) × AreShown wanted files plan (take i ks) ds (map (λ (p : Page). p.shown) (take i ps)) × AreTextsOf (map page_text (take i ps)) ds
+  Shown i = (ds : List Data) × AreShown wanted files plan (take i ks) ds (map (λ (p : Page). p.shown) (take i ps)) (map page_calls (take i ps)) × AreTextsOf wanted.calls (map page_text (take i ps)) (map page_calls (take i ps)) ds
 
   shown_next : map known_of ps ≡ map (λ (k : KeptView). k.known) ks → All (HasText wanted files nexts) ps → All (SaysShown wanted plan.roots) ps → All (HasItsLoads row) ps → IsPlanOf files plan → readings row ≡ plan.reads → AreModules plan ks → AreNextsOf plan nexts → (i : ℕ) → i < length ks → i < length ps → Shown i → Shown (i + 1)
   shown_next same has says loaded planned read are nexts_are i less inside before =
@@ -210,12 +230,22 @@ module _ (wanted : Wanted) (files : List File) (row : Row) (plan : Plan) (nexts 
       λ d. sym (get_or-map (λ (k : KeptView). k.known) ks i d (Some it) less)
       ∙ (ap (λ xs. get_or xs i (Some it)) (sym same) ∙ (get_or-map known_of ps i p (Some it) inside ∙ ap known_of (found.1 p))) in
       let own : HasText wanted files nexts p = subst (HasText wanted files nexts) (found.1 p) (has i p inside) in
-      let text = text_of_page wanted files nexts p own in
-      let first : take (i + 1) ps ≡ take i ps ++ p ∷ [] = take_more ps i p inside ∙ ap (λ x. take i ps ++ x ∷ []) (found.1 p) in (
-        before.0 ++ added (more_of wanted files p.loads.now it) text.0 ∷ [],
-        subst (AreShown wanted files plan (take (i + 1) ks) (before.0 ++ added (more_of wanted files p.loads.now it) text.0 ∷ [])) (sym (ap (map (λ (q : Page). q.shown)) first ∙ map_push (λ (q : Page). q.shown) (take i ps) p))
-            (shown_more wanted files row plan nexts ks i before.0 (map (λ (q : Page). q.shown) (take i ps)) it p.loads.now text.0 p.shown less known text.1 (subst (SaysShown wanted plan.roots) (found.1 p) (says i p inside)) planned read (subst (HasItsLoads row) (found.1 p) (loaded i p inside)) are nexts_are before.1),
-        subst (λ ts. AreTextsOf ts (before.0 ++ added (more_of wanted files p.loads.now it) text.0 ∷ [])) (sym (ap (map page_text) first ∙ map_push page_text (take i ps) p)) (texts_push (map page_text (take i ps)) before.0 (page_text p) (added (more_of wanted files p.loads.now it) text.0) before.2 text.2),
+      let whole = text_of_page wanted files nexts p own in
+      let text = whole.1 in
+      let first : take (i + 1) ps ≡ take i ps ++ p ∷ [] = take_more ps i p inside ∙ ap (λ x. take i ps ++ x ∷ []) (found.1 p) in
+      let ds : List Data = before.0 ++ added (more_of wanted files p.loads.now it) text.0 ∷ [] in
+      let bs : map (λ (q : Page). q.shown) (take (i + 1) ps) ≡ map (λ (q : Page). q.shown) (take i ps) ++ p.shown ∷ [] = ap (map (λ (q : Page). q.shown)) first ∙ map_push (λ (q : Page). q.shown) (take i ps) p in
+      let cs : map page_calls (take (i + 1) ps) ≡ map page_calls (take i ps) ++ page_calls p ∷ [] = ap (map page_calls) first ∙ map_push page_calls (take i ps) p in
+      let ts : map page_text (take (i + 1) ps) ≡ map page_text (take i ps) ++ page_text p ∷ [] = ap (map page_text) first ∙ map_push page_text (take i ps) p in
+      let own_text : has_float (added (more_of wanted files p.loads.now it) text.0) ≡ false → page_text p ≡ with_calls wanted.calls (page_calls p) (compact_text (added (more_of wanted files p.loads.now it) text.0)) =
+      λ none. whole.2 ∙ ap (with_calls wanted.calls (page_calls p)) (text.2 none) in (
+        ds,
+        subst (λ xs. AreShown wanted files plan (take (i + 1) ks) ds xs (map page_calls (take (i + 1) ps))) (sym bs)
+            (subst (AreShown wanted files plan (take (i + 1) ks) ds (map (λ (q : Page). q.shown) (take i ps) ++ p.shown ∷ [])) (sym cs)
+            (shown_more wanted files row plan nexts ks i before.0 (map (λ (q : Page). q.shown) (take i ps)) (map page_calls (take i ps)) it p.loads.now text.0 p.shown less known text.1 (subst (SaysShown wanted plan.roots) (found.1 p) (says i p inside)) planned read (subst (HasItsLoads row) (found.1 p) (loaded i p inside)) are nexts_are before.1)),
+        subst (λ xs. AreTextsOf wanted.calls xs (map page_calls (take (i + 1) ps)) ds) (sym ts)
+            (subst (λ xs. AreTextsOf wanted.calls (map page_text (take i ps) ++ page_text p ∷ []) xs ds) (sym cs)
+            (texts_push wanted.calls (map page_text (take i ps)) (map page_calls (take i ps)) before.0 (page_text p) (page_calls p) (added (more_of wanted files p.loads.now it) text.0) before.2 own_text)),
       )
 
   shown_to : map known_of ps ≡ map (λ (k : KeptView). k.known) ks → All (HasText wanted files nexts) ps → All (SaysShown wanted plan.roots) ps → All (HasItsLoads row) ps → IsPlanOf files plan → readings row ≡ plan.reads → AreModules plan ks → AreNextsOf plan nexts → (i : ℕ) → i ≤ length ks → i ≤ length ps → Shown i
@@ -230,15 +260,17 @@ module _ (wanted : Wanted) (files : List File) (row : Row) (plan : Plan) (nexts 
       let long : length ps ≡ length ks = sym (length-map ps known_of) ∙ (ap length same ∙ length-map ks (λ (k : KeptView). k.known)) in
       let all = shown_to same has says loaded planned read are nexts_are (length ks) (omega arith) (omega (arith, long)) in
       let whole : take (length ks) ps ≡ ps = take_all (length ks) ps (omega (arith, long)) in
-      let shown : AreShown wanted files plan ks all.0 (map (λ (p : Page). p.shown) ps) =
-      subst (λ qs. AreShown wanted files plan ks all.0 (map (λ (p : Page). p.shown) qs)) whole (shown_all wanted files plan ks (length ks) all.0 (map (λ (p : Page). p.shown) (take (length ks) ps)) refl all.1) in
+      let shown : AreShown wanted files plan ks all.0 (map (λ (p : Page). p.shown) ps) (map page_calls ps) =
+      subst (λ qs. AreShown wanted files plan ks all.0 (map (λ (p : Page). p.shown) qs) (map page_calls qs)) whole (shown_all wanted files plan ks (length ks) all.0 (map (λ (p : Page). p.shown) (take (length ks) ps)) (map page_calls (take (length ks) ps)) refl all.1) in
       let fs : List Full = shown.fulls in
-      let none : items_have_float (items_of all.0) ≡ false = subst (λ ds. items_have_float (items_of ds) ≡ false) (sym shown.data_are) (fulls_none wanted files plan fs shown.more) in
-      let texts : map page_text ps ≡ map (λ f. compact_text (full_data files f)) fs =
-      texts_are (map page_text ps) all.0 (subst (λ qs. AreTextsOf (map page_text qs) all.0) whole all.2) none ∙ (ap (map compact_text) shown.data_are ∙ map-map compact_text (full_data files) fs) in
-      let kept : shown_texts_of ps ≡ map compact_text (map (full_data files) (filter (is_shown wanted plan) fs)) =
-      filtered page_text (λ (p : Page). p.shown) (λ (f : Full). compact_text (full_data files f)) (is_shown wanted plan) ps fs texts shown.shown_are ∙ sym (map-map compact_text (full_data files) (filter (is_shown wanted plan) fs)) in
-      record { fulls = fs; report = report_shown wanted files plan ks all.0 (map (λ (p : Page). p.shown) ps) are shown; more = shown.more; text_is = ap (joined_text begun) kept ∙ sym (report_joined wanted files plan begun fs) }
+      let none : items_have_float (items_of (map (full_data files) fs)) ≡ false = fulls_none wanted files plan fs shown.more in
+      let said : AreTextsOf wanted.calls (map page_text ps) (map page_calls ps) all.0 = subst (λ qs. AreTextsOf wanted.calls (map page_text qs) (map page_calls qs) all.0) whole all.2 in
+      let all_said : AreTextsOf wanted.calls (map page_text ps) (map (λ (f : Full). calls_by f.shown.ended) fs) (map (full_data files) fs) =
+      subst (AreTextsOf wanted.calls (map page_text ps) (map (λ (f : Full). calls_by f.shown.ended) fs)) shown.data_are (subst (λ cs. AreTextsOf wanted.calls (map page_text ps) cs all.0) shown.calls_are said) in
+      let texts : map page_text ps ≡ map (full_row wanted files) fs = texts_are wanted files (map page_text ps) fs all_said none in
+      let kept : shown_texts_of ps ≡ map (full_row wanted files) (filter (is_shown wanted plan) fs) =
+      filtered page_text (λ (p : Page). p.shown) (full_row wanted files) (is_shown wanted plan) ps fs texts shown.shown_are in
+      record { fulls = fs; report = report_shown wanted files plan ks all.0 (map (λ (p : Page). p.shown) ps) (map page_calls ps) are shown; more = shown.more; text_is = ap (joined_text begun) kept ∙ whole_joined wanted.calls wanted files plan begun fs refl }
 
 -- the text that is written for the pages of a run's modules is the text of its report
 pub pages_text : (wanted : Wanted) (files : List File) (row : Row) (plan : Plan) (nexts : Nexts) (ks : List KeptView) (old new : List Page) (begun : ℕ) (text : List ℕ) → map known_of old ≡ map (λ (k : KeptView). k.known) ks → All (SaysShown wanted plan.roots) old → All (HasItsLoads row) old → AreWritten wanted files nexts old new → length new ≡ length old

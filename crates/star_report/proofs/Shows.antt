@@ -21,6 +21,8 @@ use Rattle.star_reading.specs.Codes.{fault_of}
 use Rattle.star_reading.specs.Readings.{Row, loads_at, readings}
 use Rattle.star_scope.specs.declared.loads.Load.{Load}
 use Rattle.star_outcome.specs.Kept.{AreModules, KeptView}
+use Rattle.star_meaning.specs.declared.said.RecordedCall.{RecordedCall}
+use Rattle.star_report.specs.Calls.{calls_by, calls_of}
 use Rattle.star_report.specs.Shelf.{more_of}
 use Rattle.star_report.specs.Shown.{AreShown, IsShown}
 use Rattle.star_report.specs.Wanted.{AreMore, Full, added, full_data, is_ok, is_shown, is_shown_by}
@@ -39,12 +41,12 @@ bad_load plan n index bad good = no_bad plan good.0 n good.1.0 index (good_is (r
 
 -- data that show how a file ended are those of its module in the report
 pub one_shown : (files : List File) (plan : Plan) (nexts : Nexts) (n : ℕ) (e : Ended) (v : Data) → IsPlanOf files plan → AreNextsOf plan nexts → IsReached plan n → IsEnd plan n e → IsShown files nexts n e v
-    → (r : ReportEnded) × IsEnded plan n r × (v ≡ ended_data files (label_at files n) r) × (is_ok r ≡ ended_well e)
-one_shown files plan nexts n (Static f) v planned are reached is shown = (HadStatic (fault_of f), is, shown, refl)
+    → (r : ReportEnded) × IsEnded plan n r × (v ≡ ended_data files (label_at files n) r) × (is_ok r ≡ ended_well e) × (calls_by r ≡ calls_of e)
+one_shown files plan nexts n (Static f) v planned are reached is shown = (HadStatic (fault_of f), is, shown, refl, refl)
 one_shown files plan nexts n (Unloaded index line) v planned are reached is shown =
-    (HadLoad shown.0 line, (shown.1 files plan planned are reached (bad_load plan n index is.0), (index, is.1.0, is.0, is.1.1, is.1.2)), shown.2, refl)
-one_shown files plan nexts n (Stopped code line lines trail) v planned are reached is shown = (HadFault (record { code = code; line = line }) lines.items, is, shown, refl)
-one_shown files plan nexts n (Good body) v planned are reached is shown = (WentWell (arc_value (arc_value body).shown) (arc_value body).lines.items, (is.shelf, is.globals, is.outcome), shown, refl)
+    (HadLoad shown.0 line, (shown.1 files plan planned are reached (bad_load plan n index is.0), (index, is.1.0, is.0, is.1.1, is.1.2)), shown.2, refl, refl)
+one_shown files plan nexts n (Stopped code line lines trail) v planned are reached is shown = (HadFault (record { code = code; line = line }) lines.items, is, shown, refl, refl)
+one_shown files plan nexts n (Good body) v planned are reached is shown = (WentWell (arc_value (arc_value body).shown) (arc_value body).lines.items, (is.shelf, is.globals, is.outcome), shown, refl, refl)
 
 -- ---- the modules that are kept
 
@@ -76,7 +78,7 @@ own_reached plan ks i it less known are = subst (IsReached plan) (number_at plan
 
 -- ---- their values
 
-pub shown_none : (wanted : Wanted) (files : List File) (plan : Plan) (ks : List KeptView) → AreShown wanted files plan (take 0 ks) [] []
+pub shown_none : (wanted : Wanted) (files : List File) (plan : Plan) (ks : List KeptView) → AreShown wanted files plan (take 0 ks) [] [] []
 shown_none wanted files plan ks = record {
   fulls = [];
   numbers = refl;
@@ -84,11 +86,12 @@ shown_none wanted files plan ks = record {
   more = All-nil (λ (f : Full). AreMore wanted files plan f.shown.file f.more);
   data_are = refl;
   shown_are = refl;
+  calls_are = refl;
 }
 
-pub shown_push : (wanted : Wanted) (files : List File) (plan : Plan) (ks : List KeptView) (ds : List Data) (bs : List Bool) (k : KeptView) (d : Data) (b : Bool) (r : ReportEnded) (ms : Members) → IsEnded plan k.number r → AreMore wanted files plan k.number ms → d ≡ ended_data files (label_at files k.number) r
-    → b ≡ is_shown_by wanted plan.roots (is_ok r) k.number → AreShown wanted files plan ks ds bs → AreShown wanted files plan (ks ++ k ∷ []) (ds ++ added ms d ∷ []) (bs ++ b ∷ [])
-shown_push wanted files plan ks ds bs k d b r ms is more seen kept was =
+pub shown_push : (wanted : Wanted) (files : List File) (plan : Plan) (ks : List KeptView) (ds : List Data) (bs : List Bool) (cs : List (List RecordedCall)) (k : KeptView) (d : Data) (b : Bool) (c : List RecordedCall) (r : ReportEnded) (ms : Members) → IsEnded plan k.number r → AreMore wanted files plan k.number ms → d ≡ ended_data files (label_at files k.number) r
+    → b ≡ is_shown_by wanted plan.roots (is_ok r) k.number → c ≡ calls_by r → AreShown wanted files plan ks ds bs cs → AreShown wanted files plan (ks ++ k ∷ []) (ds ++ added ms d ∷ []) (bs ++ b ∷ []) (cs ++ c ∷ [])
+shown_push wanted files plan ks ds bs cs k d b c r ms is more seen kept said was =
     let f : Full = record { shown = record { file = k.number; ended = r }; more = ms } in
     record {
       fulls = was.fulls ++ f ∷ [];
@@ -97,12 +100,13 @@ shown_push wanted files plan ks ds bs k d b r ms is more seen kept was =
       more = All-push (λ (x : Full). AreMore wanted files plan x.shown.file x.more) was.fulls f was.more more;
       data_are = ap (λ xs. xs ++ added ms d ∷ []) was.data_are ∙ (ap (λ x. map (full_data files) was.fulls ++ added ms x ∷ []) seen ∙ sym (map_push (full_data files) was.fulls f));
       shown_are = ap (λ xs. xs ++ b ∷ []) was.shown_are ∙ (ap (λ x. map (is_shown wanted plan) was.fulls ++ x ∷ []) kept ∙ sym (map_push (is_shown wanted plan) was.fulls f));
+      calls_are = ap (λ xs. xs ++ c ∷ []) was.calls_are ∙ (ap (λ x. map (λ (y : Full). calls_by y.shown.ended) was.fulls ++ x ∷ []) said ∙ sym (map_push (λ (y : Full). calls_by y.shown.ended) was.fulls f));
     }
 
-pub shown_more : (wanted : Wanted) (files : List File) (row : Row) (plan : Plan) (nexts : Nexts) (ks : List KeptView) (i : ℕ) (ds : List Data) (bs : List Bool) (it : Module) (loads : List Load) (v : Data) (b : Bool) → i < length ks → ((d : KeptView) → (slice_index_or ks i d).known ≡ Some it) → IsShown files nexts it.number it.ended v
+pub shown_more : (wanted : Wanted) (files : List File) (row : Row) (plan : Plan) (nexts : Nexts) (ks : List KeptView) (i : ℕ) (ds : List Data) (bs : List Bool) (cs : List (List RecordedCall)) (it : Module) (loads : List Load) (v : Data) (b : Bool) → i < length ks → ((d : KeptView) → (slice_index_or ks i d).known ≡ Some it) → IsShown files nexts it.number it.ended v
     → b ≡ is_shown_by wanted plan.roots (ended_well it.ended) it.number
-    → IsPlanOf files plan → readings row ≡ plan.reads → loads ≡ loads_at row it.number → AreModules plan ks → AreNextsOf plan nexts → AreShown wanted files plan (take i ks) ds bs → AreShown wanted files plan (take (i + 1) ks) (ds ++ added (more_of wanted files loads it) v ∷ []) (bs ++ b ∷ [])
-shown_more wanted files row plan nexts ks i ds bs it loads v b less known shown kept planned read own_loads are nexts_are was =
+    → IsPlanOf files plan → readings row ≡ plan.reads → loads ≡ loads_at row it.number → AreModules plan ks → AreNextsOf plan nexts → AreShown wanted files plan (take i ks) ds bs cs → AreShown wanted files plan (take (i + 1) ks) (ds ++ added (more_of wanted files loads it) v ∷ []) (bs ++ b ∷ []) (cs ++ calls_of it.ended ∷ [])
+shown_more wanted files row plan nexts ks i ds bs cs it loads v b less known shown kept planned read own_loads are nexts_are was =
     let k : KeptView = slice_index_or ks i no_note in
     let ms : Members = more_of wanted files loads it in
     let is : IsModule plan k.number it = module_at plan ks i it less known are no_note in
@@ -110,11 +114,11 @@ shown_more wanted files row plan nexts ks i ds bs it loads v b less known shown 
     let one = one_shown files plan nexts k.number it.ended v planned nexts_are (reached_at plan ks i no_note less are) is.ended own in
     let here : b ≡ is_shown_by wanted plan.roots (is_ok one.0) k.number =
     kept ∙ (ap (λ n. is_shown_by wanted plan.roots (ended_well it.ended) n) is.number ∙ ap (λ x. is_shown_by wanted plan.roots x k.number) (sym one.3)) in
-    subst (λ xs. AreShown wanted files plan xs (ds ++ added ms v ∷ []) (bs ++ b ∷ [])) (sym (take_more ks i no_note less))
-    (shown_push wanted files plan (take i ks) ds bs k v b one.0 ms one.1 (more_is wanted files row plan k.number it loads planned read own_loads is) one.2 here was)
+    subst (λ xs. AreShown wanted files plan xs (ds ++ added ms v ∷ []) (bs ++ b ∷ []) (cs ++ calls_of it.ended ∷ [])) (sym (take_more ks i no_note less))
+    (shown_push wanted files plan (take i ks) ds bs cs k v b (calls_of it.ended) one.0 ms one.1 (more_is wanted files row plan k.number it loads planned read own_loads is) one.2 here (sym one.4) was)
 
-pub shown_all : (wanted : Wanted) (files : List File) (plan : Plan) (ks : List KeptView) (i : ℕ) (ds : List Data) (bs : List Bool) → i ≡ length ks → AreShown wanted files plan (take i ks) ds bs → AreShown wanted files plan ks ds bs
-shown_all wanted files plan ks i ds bs end was = subst (λ xs. AreShown wanted files plan xs ds bs) (take_all i ks (let e : i ≡ length ks = end in omega arith)) was
+pub shown_all : (wanted : Wanted) (files : List File) (plan : Plan) (ks : List KeptView) (i : ℕ) (ds : List Data) (bs : List Bool) (cs : List (List RecordedCall)) → i ≡ length ks → AreShown wanted files plan (take i ks) ds bs cs → AreShown wanted files plan ks ds bs cs
+shown_all wanted files plan ks i ds bs cs end was = subst (λ xs. AreShown wanted files plan xs ds bs cs) (take_all i ks (let e : i ≡ length ks = end in omega arith)) was
 
 -- ---- the report
 
@@ -130,8 +134,8 @@ ends_in plan fs h = λ k d less. (
     subst (λ (m : ReportModule). IsEnded plan m.file m.ended) (sym (get_or-map (λ (x : Full). x.shown) fs k f d inside)) (h k f inside)
     )
 
-pub report_shown : (wanted : Wanted) (files : List File) (plan : Plan) (ks : List KeptView) (ds : List Data) (bs : List Bool) → AreModules plan ks → (shown : AreShown wanted files plan ks ds bs) → IsReport plan (length ks) (map (λ (f : Full). f.shown) shown.fulls)
-report_shown wanted files plan ks ds bs are shown =
+pub report_shown : (wanted : Wanted) (files : List File) (plan : Plan) (ks : List KeptView) (ds : List Data) (bs : List Bool) (cs : List (List RecordedCall)) → AreModules plan ks → (shown : AreShown wanted files plan ks ds bs cs) → IsReport plan (length ks) (map (λ (f : Full). f.shown) shown.fulls)
+report_shown wanted files plan ks ds bs cs are shown =
     let fs : List Full = shown.fulls in
     let ms : List ReportModule = map (λ (f : Full). f.shown) fs in
     let numbers : map (λ (m : ReportModule). m.file) ms ≡ map (λ (k : KeptView). k.number) ks = numbers_in fs ∙ shown.numbers in

@@ -17,6 +17,7 @@ use Rattle.star_data.specs.Data.{data_of, on_shelf}
 use Rattle.star_data.proofs.Stays.{data_stays}
 use Rattle.star_scope.specs.Loads.{is_private}
 use Rattle.star_scope.specs.declared.loads.Load.{Load}
+use Rattle.star_meaning.specs.declared.said.Said.{Said}
 use Rattle.star_meaning.specs.Local.{reached}
 use Rattle.star_meaning.specs.Module.{Good, Local, Stopped as HadFault, local_of, most_levels}
 use Rattle.star_tree.specs.declared.tree.Statement.{Statement}
@@ -146,7 +147,7 @@ shelf_has plan d n m e r k p (suc j, walk) own =
     let held = ((given_holds_needs plan n r.loads (are_good plan r.depth (loaded plan n) r.loads r.all)).0 k p).1 (need, own) in
     run-keeps plan n r.statements r.loads m r.run k p held
 
-done_globals : (plan : Plan) (n : ℕ) (shelf : Shelf) (globals : List (List ℕ × Value)) (texts : List (List ℕ × List ℕ)) (lines : List (List ℕ)) (r : Run plan n (Good shelf globals texts lines)) → r.run.ended.globals ≡ globals
+done_globals : (plan : Plan) (n : ℕ) (shelf : Shelf) (globals : List (List ℕ × Value)) (texts : List (List ℕ × List ℕ)) (lines : List Said) (r : Run plan n (Good shelf globals texts lines)) → r.run.ended.globals ≡ globals
 done_globals plan n shelf globals texts lines r =
     let is = ap (local_of (given plan n r.loads)) (sym r.run.done) ∙ (ran-is plan n r.statements r.loads r.sound ∙ r.comes) in
     cc
@@ -244,7 +245,7 @@ found_data : (look see : Value → Option Cell) → ((v : Value) → look v ≡ 
 found_data look see same None = refl
 found_data look see same (Some v) = same_data look see same most_levels v
 
-own_globals : (plan : Plan) (d n : ℕ) (shelf : Shelf) (globals : List (List ℕ × Value)) (texts : List (List ℕ × List ℕ)) (lines : List (List ℕ)) → result plan d n ≡ Some (Good shelf globals texts lines) → (rs : List ReachView) → AreStores plan n rs
+own_globals : (plan : Plan) (d n : ℕ) (shelf : Shelf) (globals : List (List ℕ × Value)) (texts : List (List ℕ × List ℕ)) (lines : List Said) → result plan d n ≡ Some (Good shelf globals texts lines) → (rs : List ReachView) → AreStores plan n rs
     → globals_in (option_flatten (slice_get (fold seated [] rs) n)) ≡ globals
 own_globals plan d n shelf globals texts lines e rs are =
     let m : Local = Good shelf globals texts lines in

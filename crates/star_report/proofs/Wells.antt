@@ -9,7 +9,7 @@ use Rattle.serde_json.specs.Written.{compact_text}
 use Rattle.star_label.specs.Files.{File, label_at}
 use Rattle.star_cause.specs.Ways.{Nexts}
 use Rattle.star_scope.specs.declared.loads.Load.{Load}
-use Rattle.star_plan.specs.Text.{globals_data, texts_data, well_data}
+use Rattle.star_plan.specs.Text.{globals_data, lines_in, texts_data, well_data}
 use Rattle.star_outcome.specs.declared.module.Body.{Body}
 use Rattle.star_outcome.specs.declared.module.Ended.TheVariants.{Good}
 use Rattle.star_outcome.specs.declared.module.Module.{Module}
@@ -35,7 +35,7 @@ plain_more : (wanted : Wanted) (files : List File) (loads : List Load) (m : Modu
 plain_more wanted files loads m plain = rw (plain.0, plain.1, plain.2) refl
 
 -- it is the text of the module, if no further members are wanted
-pub well_is : (wanted : Wanted) (files : List File) (nexts : Nexts) (loads : List Load) (m : Module) (b : Arc Body Global) (text : List ℕ) → IsPlain wanted → m.ended ≡ Good b → text ≡ compact_text (well_data (label_at files m.number) (arc_value (arc_value b).shown) (arc_value b).lines.items) → IsTextOf wanted files nexts loads m text
+pub well_is : (wanted : Wanted) (files : List File) (nexts : Nexts) (loads : List Load) (m : Module) (b : Arc Body Global) (text : List ℕ) → IsPlain wanted → m.ended ≡ Good b → text ≡ compact_text (well_data (label_at files m.number) (arc_value (arc_value b).shown) (lines_in (arc_value b).lines.items)) → IsTextOf wanted files nexts loads m text
 well_is wanted files nexts loads m b text plain ended is =
-    let d : Data = well_data (label_at files m.number) (arc_value (arc_value b).shown) (arc_value b).lines.items in
+    let d : Data = well_data (label_at files m.number) (arc_value (arc_value b).shown) (lines_in (arc_value b).lines.items) in
     (d, subst (λ e. IsShown files nexts m.number e d) (sym ended) refl, λ none. is ∙ ap (λ ms. compact_text (added ms d)) (sym (plain_more wanted files loads m plain)))

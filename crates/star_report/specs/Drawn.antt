@@ -57,6 +57,6 @@ IsNextNode plan entry old new =
 -- a text is the graph of a run over these files, by what was read of them
 abbrev pub DrawsRun : List File → Row → RunView → List ℕ → Type 0
 DrawsRun files row run text =
-    (plan : Plan) → IsPlanOf files plan → IsReadOf files plan.roots plan.prelude plan.mode.dialect row
+    (plan : Plan) → IsPlanOf files plan → IsReadOf files plan.roots plan.prelude plan.mode.language row
     → AreModules plan run.kept
     → IsGraphText files plan text

@@ -8,6 +8,7 @@ use Rattle.star_store.specs.declared.values.Value.{Value}
 use Rattle.star_store.specs.Store.{Shelf}
 use Rattle.star_data.specs.Counts.{member_count}
 use Rattle.star_data.specs.Data.{on_shelf}
+use Rattle.star_meaning.specs.declared.said.Said.{Said}
 use Rattle.star_meaning.specs.Module.{Good}
 use Rattle.star_outline.specs.Definitions.{AllDiffer}
 use Rattle.star_scope.specs.Loads.{is_private}
@@ -78,5 +79,5 @@ AreToldOnce f names =
 abbrev pub NoneTwice : Type 0
 NoneTwice =
     (plan : Plan) (n : ℕ) (shelf : Shelf) (globals : List (List ℕ × Value)) (texts : List (List ℕ × List ℕ))
-    (lines : List (List ℕ)) → IsOutcome plan n (Ran (Good shelf globals texts lines))
+    (lines : List Said) → IsOutcome plan n (Ran (Good shelf globals texts lines))
     → AreToldOnce (global_data (on_shelf shelf) globals) (map (λ g. g.0) texts)

@@ -1,6 +1,8 @@
 -- Words of the contracts of the report, whose text is `Text` of star_plan. Wanted, Got, Graph and Output define the
 -- additions of the options.
 pub mod Fails
+pub mod Joined
+pub mod Calls
 pub mod Shown
 pub mod Pages
 pub mod Values

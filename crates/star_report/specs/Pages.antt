@@ -1,11 +1,11 @@
 -- The pages of a report: modules, and their texts.
-use Rattle.std.specs.Prelude.{◌≡◌, ◌<◌, ℕ, List, [], ◌∷◌, ◌++◌, Bool, false, true, Option, Some, None, IfSome, Vec, codes, decimal, filter, length, map, slice_index_or}
+use Rattle.std.specs.Prelude.{◌≡◌, ◌<◌, ℕ, List, [], ◌∷◌, ◌++◌, Bool, false, true, Option, Some, None, IfSome, Vec, codes, filter, length, map, slice_index_or}
 use Rattle.serde_json.specs.Data.{Data}
-use Rattle.serde_json.specs.Written.{comma_if}
 use Rattle.star_label.specs.Files.{File}
 use Rattle.star_cause.specs.Ways.{Nexts}
 use Rattle.star_scope.specs.declared.loads.Load.{Load}
 use Rattle.star_reading.specs.Readings.{Row, loads_at}
+use Rattle.star_report.specs.Calls.{calls_of, with_calls}
 use Rattle.star_report.specs.Shelf.{more_of}
 use Rattle.star_report.specs.Shown.{IsShown}
 use Rattle.star_report.specs.Texts.{IsDataText}
@@ -19,6 +19,11 @@ use Rattle.star_report.specs.declared.pages.Page.{Page}
 abbrev pub IsTextOf : Wanted → List File → Nexts → List Load → Module → List ℕ → Type 0
 IsTextOf wanted files nexts loads m text =
     (d : Data) × IsShown files nexts m.number m.ended d × IsDataText (added (more_of wanted files loads m) d) text
+
+-- the same with the calls that the module recorded, if they are wanted
+abbrev pub IsWholeTextOf : Wanted → List File → Nexts → List Load → Module → List ℕ → Type 0
+IsWholeTextOf wanted files nexts loads m text =
+    (own : List ℕ) × IsTextOf wanted files nexts loads m own × (text ≡ with_calls wanted.calls (calls_of m.ended) own)
 
 -- the text of a module that ran to its end, by the JSON of its globals, of its label and of its lines
 abbrev pub text_around : List ℕ → List ℕ → List ℕ → List ℕ
@@ -35,7 +40,7 @@ pub record IsWritten (wanted : Wanted) (files : List File) (nexts : Nexts) (old 
   pub same : new.about ≡ old.about
   pub loads : new.loads ≡ old.loads
   pub shown : new.shown ≡ old.shown
-  pub text : IfSome new.text (λ s. IsTextOf wanted files nexts new.loads.now new.about.now s.items)
+  pub text : IfSome new.text (λ s. IsWholeTextOf wanted files nexts new.loads.now new.about.now s.items)
 
 -- a page has the loads of its module's file
 abbrev pub HasItsLoads : Row → Page → Type 0
@@ -60,13 +65,3 @@ shown_texts_of ps = map page_text (filter (λ p. p.shown) ps)
 -- a page says right whether its module is shown
 abbrev pub SaysShown : Wanted → List ℕ → Page → Type 0
 SaysShown wanted roots p = p.shown ≡ is_shown_by wanted roots (ended_well p.about.now.ended) p.about.now.number
-
--- texts with a comma before each, except before the first if no text comes before it
-abbrev pub listed : Bool → List (List ℕ) → List ℕ
-listed later [] = []
-listed later (t ∷ ts) = comma_if later ++ (t ++ listed true ts)
-
--- the text of a report, by the texts of its modules
-abbrev pub joined_text : ℕ → List (List ℕ) → List ℕ
-joined_text begun texts =
-    codes "{\"begun\":" ++ (decimal begun ++ (codes ",\"modules\":[" ++ (listed false texts ++ codes "]}\n")))

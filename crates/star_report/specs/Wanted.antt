@@ -12,14 +12,16 @@ use Rattle.star_plan.specs.Report.{Ended, IsReport, Module, WentWell}
 use Rattle.star_plan.specs.Results.{IsOutcome, Outcome, Ran}
 use Rattle.star_plan.specs.Text.{module_data}
 use Rattle.star_outcome.specs.Paid.{HasPaid}
+use Rattle.star_report.specs.Calls.{calls_by, with_calls}
+use Rattle.star_report.specs.Joined.{joined_text}
 use Rattle.star_report.specs.Values.{value_members}
 use Rattle.star_report.specs.declared.wanted.Wanted.{Wanted}
 
 -- no further members, and all modules
 abbrev pub nothing_more : Wanted
-nothing_more = record { values = false; loads = false; steps = false; only_roots = false }
+nothing_more = record { values = false; loads = false; steps = false; calls = false; only_roots = false }
 
--- no further members
+-- no further members, but perhaps calls
 abbrev pub IsPlain : Wanted → Type 0
 IsPlain w = (w.values ≡ false) × (w.loads ≡ false) × (w.steps ≡ false)
 
@@ -97,11 +99,22 @@ is_shown_by wanted roots ok n = not wanted.only_roots || (not ok || list_any (na
 abbrev pub is_shown : Wanted → Plan → Full → Bool
 is_shown wanted plan f = is_shown_by wanted plan.roots (is_ok f.shown.ended) f.shown.file
 
+-- a module's text with the calls that it recorded, if they are wanted
+abbrev pub full_row : Wanted → List File → Full → List ℕ
+full_row wanted files f = with_calls wanted.calls (calls_by f.shown.ended) (compact_text (full_data files f))
+
+-- the text of a report without calls
 unfoldable pub full_text : Wanted → List File → Plan → ℕ → List Full → List ℕ
 full_text wanted files plan begun fulls =
     compact_text (object (member (codes "begun") (number (unsigned begun))
     (member (codes "modules") (array (items_of (map (full_data files) (filter (is_shown wanted plan) fulls))))
     no_members))) ++ 10 ∷ []
+
+-- the text of a report with the calls of each module, if they are wanted
+abbrev pub whole_text : Bool → Wanted → List File → Plan → ℕ → List Full → List ℕ
+whole_text false wanted files plan begun fulls = full_text wanted files plan begun fulls
+whole_text true wanted files plan begun fulls =
+    joined_text begun (map (full_row wanted files) (filter (is_shown wanted plan) fulls))
 
 -- a text is the report of a plan, with the wanted members
 pub record IsFullText (wanted : Wanted) (files : List File) (plan : Plan) (text : List ℕ) : Type 0 where
@@ -109,4 +122,4 @@ pub record IsFullText (wanted : Wanted) (files : List File) (plan : Plan) (text 
   pub fulls : List Full
   pub report : IsReport plan begun (map (λ f. f.shown) fulls)
   pub more : All (λ f. AreMore wanted files plan f.shown.file f.more) fulls
-  pub text_is : text ≡ full_text wanted files plan begun fulls
+  pub text_is : text ≡ whole_text wanted.calls wanted files plan begun fulls

@@ -127,7 +127,7 @@ fn json_in(
 }
 
 /// The module of a file.
-fn module_at<'a>(table: &[Option<&'a Module>], n: usize) -> Option<&'a Module>
+pub(crate) fn module_at<'a>(table: &[Option<&'a Module>], n: usize) -> Option<&'a Module>
     ensures { result ≡ option_flatten (slice_get table.now n) }
 {
     match table.get(n) {

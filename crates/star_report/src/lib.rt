@@ -4,8 +4,8 @@
 //!   pages in the order of labels. The JSON of a module is made there too. For a static fault or a failed load it is
 //!   that of `star_check`.
 //! - `Wanted` says which further members each module gets: values as JSON (`values`, with `star_data`), loads,
-//!   steps (`more`).
-//! - `Output` says what a run writes: the report, or in its place a global of each root as JSON (`got`), or the graph
+//!   steps (`more`), and the calls that it recorded (`calls`).
+//! - `Output` says what a run writes: the report, or in its place a global of each root as JSON (`got`), its calls of a name (`calls`), or the graph
 //!   of loads as DOT (`graph`). Or it writes the check of files, whose text `star_check` makes. Then no file runs.
 //!
 //! Begin at `report.rt::module_value`. The promise is the contract of `report`: the text is exactly the text of the
@@ -13,6 +13,7 @@
 //! that an input has one such text, and without options the plain report.
 #![tactic(auto)]
 
+pub mod calls;
 mod components;
 pub mod got;
 pub mod graph;

@@ -4,8 +4,10 @@ ghost use Rattle.std.specs.Prelude.{◌≡◌, ◌<◌, ◌++◌, ◌||◌, [], 
 ghost use Rattle.serde_json.specs.Written.{comma_if};
 ghost use Rattle.star_reading.specs.Found.{AreMarked};
 ghost use Rattle.star_reading.specs.Readings.{loads_at};
-ghost use Rattle.star_report.specs.Pages.{AreWritten, HasItsLoads, IsTextOf, IsWritten, SaysShown, joined_text, known_of, page_text, shown_texts_of};
+ghost use Rattle.star_report.specs.Pages.{AreWritten, HasItsLoads, IsTextOf, IsWholeTextOf, IsWritten, SaysShown, known_of, page_text, shown_texts_of};
+ghost use Rattle.star_report.specs.Joined.{joined_text};
 
+use crate::calls::text_with_calls;
 use crate::more::text_with_more;
 use crate::report::{good_text, module_value};
 use crate::wanted::Wanted;
@@ -47,14 +49,14 @@ impl<'a> Page<'a> {
         requires there { self.old.about.now.number < length files.now }
         ensures { IsWritten wanted files.now causes.now self.old self.new }
     {
-        self.text = match module_text(alloc, files, causes, self.loads, wanted, self.about) {
+        self.text = match whole_text(alloc, files, causes, self.loads, wanted, self.about) {
             Ok(text) => Some(text),
             Err(_) => None,
         };
     }
 }
 
-/// The text of a module.
+/// The text of a module, without the calls that it recorded.
 fn module_text(
     alloc: Global,
     files: &Labels,
@@ -82,6 +84,24 @@ fn module_text(
             text_with_more(alloc, files, loads, wanted, it, shown)
         }
     }
+}
+
+/// The text of a module.
+fn whole_text(
+    alloc: Global,
+    files: &Labels,
+    causes: &Causes,
+    loads: &[Load],
+    wanted: Wanted,
+    it: &Module,
+) -> Result<Vec<u8>, AllocError>
+    requires files { length causes.now ≡ length files.now }
+    requires loads { All (λ l. l.file < length files.now) loads.now }
+    requires there { it.now.number < length files.now }
+    ensures { IfOk result (λ s. IsWholeTextOf wanted files.now causes.now loads.now it.now s.items) }
+{
+    let text = module_text(alloc, files, causes, loads, wanted, it)?;
+    text_with_calls(alloc, wanted.calls, &it.ended, text)
 }
 
 /// The empty page of a module.

@@ -1,6 +1,6 @@
 //! `report`: the report of a run as one text, and the JSON of each module.
 
-ghost use Rattle.std.specs.Prelude.{◌≡◌, ◌<◌, ◌↔◌, ℕ, true, false, Contains, Some, IfOk, IfSome, OnOk};
+ghost use Rattle.std.specs.Prelude.{◌≡◌, ◌<◌, ◌↔◌, ℕ, true, false, Contains, Some, IfOk, IfSome, OnOk, ◌++◌, ◌∷◌, []};
 ghost use Rattle.std.specs.Prelude.{codes, length, map, vec_len};
 ghost use Rattle.serde_json.specs.Data.{number, string};
 ghost use Rattle.serde_json.specs.View.{view};
@@ -8,7 +8,7 @@ ghost use Rattle.serde_json.specs.Written.{compact_text};
 ghost use Rattle.star_cause.specs.Ends.{AreWithin};
 ghost use Rattle.star_plan.specs.Causes.{FailsBy};
 ghost use Rattle.star_plan.specs.Plan.{Plan};
-ghost use Rattle.star_plan.specs.Text.{ill_data, well_data};
+ghost use Rattle.star_plan.specs.Text.{ill_data, lines_in, well_data};
 ghost use Rattle.star_report.specs.Fails.{AreFails};
 ghost use Rattle.star_outcome.specs.Kept.{AllGood, IsLoadBelow};
 ghost use Rattle.star_report.specs.Shelf.{LeadToFiles};
@@ -22,13 +22,13 @@ use serde_json::{Value, json};
 use star_cause::Causes;
 use star_check::failed::{load_value, static_value};
 use star_label::files::Files as Labels;
+use star_meaning::said::Said;
 use star_outcome::module::{Ended, Module};
 use star_outcome::outcome::Run;
 use star_outcome::shown::Shown;
 use star_reading::code::code_text;
 use star_reading::reading::Reads;
 use star_reading::roots::roots_marked;
-use star_text::Text;
 use std::alloc::{AllocError, Global};
 use std::thread::Threads;
 
@@ -44,13 +44,27 @@ pub struct ReportOptions {
     pub frugal: bool,
 }
 
-/// Lines as strings.
-fn strings(alloc: Global, lines: &[Text]) -> Result<Vec<Value>, AllocError>
-    ensures { IfOk result (λ v. map view v.items ≡ map string lines.now) }
+/// Adds a line that was printed as a string. Nothing else adds one.
+fn push_string(alloc: Global, items: &mut Vec<Value>, one: &Said) -> Result<(), AllocError>
+    ensures { OnOk result (map view items.new.items
+        ≡ map view items.old.items ++ map string (lines_in (one.now ∷ []))) }
+{
+    match one {
+        Said::Line(line) => {
+            items.push(Value::try_from_str(alloc, line.as_str())?)?;
+            Ok(())
+        }
+        Said::Call(_) => Ok(()),
+    }
+}
+
+/// The lines that were printed as strings.
+fn strings(alloc: Global, said: &[Said]) -> Result<Vec<Value>, AllocError>
+    ensures { IfOk result (λ v. map view v.items ≡ map string (lines_in said.now)) }
 {
     let mut items = Vec::new(alloc);
-    for line in lines {
-        items.push(Value::try_from_str(alloc, line.as_str())?)?;
+    for one in said {
+        push_string(alloc, &mut items, one)?;
     }
     Ok(items)
 }
@@ -61,10 +75,10 @@ fn failed_module(
     label: &str,
     code: &str,
     line: usize,
-    lines: &[Text],
+    lines: &[Said],
 ) -> Result<Value, AllocError>
     ensures { IfOk result (λ v. view v
-        ≡ ill_data (codes "fault") (string code.now) label.now line lines.now (codes "fault")) }
+        ≡ ill_data (codes "fault") (string code.now) label.now line (lines_in lines.now) (codes "fault")) }
 {
     let lines = Value::Array(strings(alloc, lines)?);
     json!(in alloc; {"fault": code, "label": label, "line": line as u64, "lines": lines, "status": "fault"})
@@ -99,9 +113,9 @@ pub(crate) fn good_text(
     alloc: Global,
     label: &str,
     shown: &Shown,
-    lines: &[Text],
+    lines: &[Said],
 ) -> Result<Vec<u8>, AllocError>
-    ensures { IfOk result (λ t. t.items ≡ compact_text (well_data label.now shown.now lines.now)) }
+    ensures { IfOk result (λ t. t.items ≡ compact_text (well_data label.now shown.now (lines_in lines.now))) }
 {
     let label = Value::try_from_str(alloc, label)?.to_vec(alloc)?;
     let lines = Value::Array(strings(alloc, lines)?).to_vec(alloc)?;
@@ -113,9 +127,9 @@ fn good_module(
     alloc: Global,
     label: &str,
     shown: &Shown,
-    lines: &[Text],
+    lines: &[Said],
 ) -> Result<Value, AllocError>
-    ensures { IfOk result (λ v. view v ≡ well_data label.now shown.now lines.now) }
+    ensures { IfOk result (λ v. view v ≡ well_data label.now shown.now (lines_in lines.now)) }
 {
     let globals = Value::Object(shown.members(alloc)?);
     let lines = Value::Array(strings(alloc, lines)?);

@@ -13,6 +13,8 @@ pub struct Wanted {
     pub loads: bool,
     /// The steps that it has paid, if it is ok.
     pub steps: bool,
+    /// The calls that it recorded.
+    pub calls: bool,
     /// Of the modules that are ok, only the roots are shown.
     pub only_roots: bool,
 }
@@ -23,10 +25,11 @@ impl Wanted {
         values: false,
         loads: false,
         steps: false,
+        calls: false,
         only_roots: false,
     };
 
-    /// Whether no further members of a module are wanted.
+    /// Whether no further members of a module are wanted, but for the calls that it recorded.
     pub(crate) fn is_plain(self) -> bool
         ensures { result ≡ true → IsPlain self }
     {
@@ -41,9 +44,11 @@ pub enum Output {
     Report(Wanted),
     /// A line for each root, with its global of this name as JSON.
     Global(String),
+    /// A line for each call of this name that a root recorded, as JSON.
+    Calls(String),
     /// The graph of loads.
     Graph,
     /// The check of the files before any runs (`star_check`). `only_roots` says whether only the roots are shown of the
-    /// files with nothing against them.
-    Check { only_roots: bool },
+    /// files with nothing against them, and `calls` whether each has an empty row of calls.
+    Check { only_roots: bool, calls: bool },
 }

@@ -48,7 +48,7 @@ Found blocks outer name up rows (Some spot.Outermost) = (nearest blocks name row
 Found blocks outer name up rows None = (nearest blocks name rows ≡ None) × (outside_spot outer name ≡ None)
 
 outside : (V : Type 0) (blocks : List Block) (outer : Outer) (name : List ℕ) (up : ℕ) (o : Option Spot) → outside_spot outer name ≡ o → Found {V = V} blocks outer name up [] o
-outside V blocks outer name up (Some (spot.Frame u slot)) e = absurd (never (prelude_has outer.names name) (has_name (outermost_names outer.dialect) name) e)
+outside V blocks outer name up (Some (spot.Frame u slot)) e = absurd (never (prelude_has outer.names name) (has_name (outermost_names outer.language) name) e)
   where
     never : (a b : Bool) → (if a then Some spot.Prelude else if b then Some spot.Outermost else None) ≡ Some (spot.Frame u slot) → ⊥
     never true b e = cc
@@ -119,14 +119,14 @@ leads blocks outer name rows o h = record {
   in_rows = λ u slot e. in_frames blocks outer name rows u slot (subst (λ x. Found blocks outer name 0 rows x) e h);
   in_prelude = λ e.
       let k = subst (λ x. Found blocks outer name 0 rows x) e h in
-      (k.0, from_prelude (prelude_has outer.names name) (has_name (outermost_names outer.dialect) name) k.1);
+      (k.0, from_prelude (prelude_has outer.names name) (has_name (outermost_names outer.language) name) k.1);
   outermost = λ e.
       let k = subst (λ x. Found blocks outer name 0 rows x) e h in
-      let both = from_outermost (prelude_has outer.names name) (has_name (outermost_names outer.dialect) name) k.1 in
+      let both = from_outermost (prelude_has outer.names name) (has_name (outermost_names outer.language) name) k.1 in
       (k.0, both.0, both.1);
   nowhere = λ e.
       let k = subst (λ x. Found blocks outer name 0 rows x) e h in
-      let both = from_nowhere (prelude_has outer.names name) (has_name (outermost_names outer.dialect) name) k.1 in
+      let both = from_nowhere (prelude_has outer.names name) (has_name (outermost_names outer.language) name) k.1 in
       (k.0, both.0, both.1);
 }
 

@@ -10,3 +10,4 @@ pub mod UseForms
 pub mod StatementForms
 pub mod Leading
 pub mod Spotted
+pub mod Recorded

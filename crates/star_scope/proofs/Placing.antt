@@ -36,22 +36,22 @@ place_none scope p = record { kept = λ t s e. e; have = tt; found = sym (first_
 
 -- one name, with its spot
 pub place_one : (scope : Scope) (n : Name) (chain : List ℕ) (s : Spot) (old new : ResolvedNames)
-    → length chain ≤ chain_length → spot_of scope.blocks.now (outer_shown scope.prelude scope.dialect) n.text chain ≡ Some s
+    → length chain ≤ chain_length → spot_of scope.blocks.now (outer_shown scope.prelude scope.language) n.text chain ≡ Some s
     → Keeps old.spots new.spots → spot_at new.spots n.position.token ≡ Some s → new.first ≡ old.first → Places scope (one_use n chain) old new
 place_one scope n chain s old new short is keeps put same = record {
   kept = keeps;
   have = ((short, λ t e. put ∙ sym is ∙ e), tt);
-  found = same ∙ sym (first_none old.first) ∙ ap (λ fs. first_from old.first fs) (sym (append-nil (undefined_at n (spot_of scope.blocks.now (outer_shown scope.prelude scope.dialect) n.text chain)) ∙ ap (undefined_at n) is));
+  found = same ∙ sym (first_none old.first) ∙ ap (λ fs. first_from old.first fs) (sym (append-nil (undefined_at n (spot_of scope.blocks.now (outer_shown scope.prelude scope.language) n.text chain)) ∙ ap (undefined_at n) is));
 }
 
 -- one undefined name
 pub place_undefined : (scope : Scope) (n : Name) (chain : List ℕ) (old new : ResolvedNames)
-    → length chain ≤ chain_length → spot_of scope.blocks.now (outer_shown scope.prelude scope.dialect) n.text chain ≡ None
+    → length chain ≤ chain_length → spot_of scope.blocks.now (outer_shown scope.prelude scope.language) n.text chain ≡ None
     → new.spots ≡ old.spots → new.first ≡ first_from old.first (undefined_at n None) → Places scope (one_use n chain) old new
 place_undefined scope n chain old new short is same found = record {
   kept = λ t s e. ap (λ spots. spot_at spots t) same ∙ e;
   have = ((short, λ t e. absurd (not_both t (sym is ∙ e))), tt);
-  found = found ∙ ap (λ fs. first_from old.first fs) (sym (append-nil (undefined_at n (spot_of scope.blocks.now (outer_shown scope.prelude scope.dialect) n.text chain)) ∙ ap (undefined_at n) is));
+  found = found ∙ ap (λ fs. first_from old.first fs) (sym (append-nil (undefined_at n (spot_of scope.blocks.now (outer_shown scope.prelude scope.language) n.text chain)) ∙ ap (undefined_at n) is));
 }
   where
     not_both : (t : Spot) → None ≡ Some t → ⊥
@@ -65,7 +65,7 @@ place_defined scope number chain us a b p = record { kept = p.kept; have = (tt, 
 pub place_both : (scope : Scope) (us vs : List Use) (a b c : ResolvedNames) → Places scope us a b → Places scope vs b c → Places scope (us ++ vs) a c
 place_both scope us vs a b c x y =
     let blocks = scope.blocks.now in
-    let outer = outer_shown scope.prelude scope.dialect in
+    let outer = outer_shown scope.prelude scope.language in
     record {
       kept = λ t s e. y.kept t s (x.kept t s e);
       have = have_both (spot_at c.spots) blocks outer us vs (have_still blocks outer b.spots c.spots us y.kept x.have) y.have;

@@ -4,6 +4,7 @@ use Rattle.std.specs.List.{flat_map}
 use Rattle.std.specs.Option.{option_and_then}
 use Rattle.star_dialect.specs.declared.Dialect.{Dialect}
 use Rattle.star_dialect.specs.declared.Dialect.TheVariants as dialect
+use Rattle.star_dialect.specs.declared.Language.{Language}
 use Rattle.star_tree.specs.declared.tree.Name.{Name}
 use Rattle.star_scope.specs.declared.error.ScopeFault.TheVariants as fault
 use Rattle.star_scope.specs.declared.error.LocatedFault.{LocatedFault}
@@ -35,16 +36,20 @@ further_names =
     codes "chr" ∷ codes "dir" ∷ codes "getattr" ∷ codes "hasattr" ∷ codes "hash" ∷ codes "json" ∷ codes "ord"
     ∷ codes "set" ∷ codes "struct" ∷ []
 
--- the names of the outermost block of a dialect
-abbrev pub outermost_names : Dialect → Names
-outermost_names dialect.Core = core_names
-outermost_names dialect.Extended = core_names ++ further_names
+-- the names of the language's own in a dialect
+abbrev pub own_names : Dialect → Names
+own_names dialect.Core = core_names
+own_names dialect.Extended = core_names ++ further_names
 
--- what is outside of a file: the names of the prelude's block, if the file sees a prelude, and the dialect, which has
+-- the names of the outermost block of a language: its own, and those whose calls are recorded
+abbrev pub outermost_names : Language → Names
+outermost_names l = own_names l.dialect ++ l.recorded
+
+-- what is outside of a file: the names of the prelude's block, if the file sees a prelude, and the language, which has
 -- the names of the outermost block
 pub record Outer : Type 0 where
   pub names : Option Names
-  pub dialect : Dialect
+  pub language : Language
 
 -- whether the prelude's block, whose names these are, has a name that other files see: one that is not private
 abbrev pub prelude_has : Option Names → List ℕ → Bool
@@ -55,7 +60,7 @@ prelude_has (Some names) name = not (is_private name) && has_name names name
 abbrev pub outside_spot : Outer → List ℕ → Option Spot
 outside_spot outer name =
     if prelude_has outer.names name then Some spot.Prelude
-    else if has_name (outermost_names outer.dialect) name then Some spot.Outermost else None
+    else if has_name (outermost_names outer.language) name then Some spot.Outermost else None
 
 abbrev pub or_further : ℕ → Option ℕ → Option Spot → Option Spot
 or_further up (Some slot) further = Some (spot.Frame up slot)
@@ -140,9 +145,9 @@ pub record Leads (V : Type 0) (blocks : List Block) (outer : Outer) (name : List
       × (nearest blocks name rows ≡ Some v)
   pub in_prelude : s ≡ Some spot.Prelude → (nearest blocks name rows ≡ None) × (prelude_has outer.names name ≡ true)
   pub outermost : s ≡ Some spot.Outermost → (nearest blocks name rows ≡ None) × (prelude_has outer.names name ≡ false)
-      × (has_name (outermost_names outer.dialect) name ≡ true)
+      × (has_name (outermost_names outer.language) name ≡ true)
   pub nowhere : s ≡ None → (nearest blocks name rows ≡ None) × (prelude_has outer.names name ≡ false)
-      × (has_name (outermost_names outer.dialect) name ≡ false)
+      × (has_name (outermost_names outer.language) name ≡ false)
 
 -- the law of spots: they lead to the right values in all rows that fit
 abbrev pub SpotsLead : Type 0 → Type 0

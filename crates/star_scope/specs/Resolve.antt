@@ -3,7 +3,7 @@ use Rattle.std.specs.Prelude.{◌≡◌, ◌⊎◌, ℕ, nat_eq, List, [], ◌++
 use Rattle.std.specs.List.{flat_map}
 use Rattle.std.specs.Option.{option_copied, option_map}
 use denote.Ref.{Bor}
-use Rattle.star_dialect.specs.declared.Dialect.{Dialect}
+use Rattle.star_dialect.specs.declared.Language.{Language}
 use Rattle.star_label.specs.Files.{File, label_at}
 use Rattle.star_label.specs.Label.{package_of}
 use Rattle.star_tree.specs.declared.tree.Statement.{Statement}
@@ -51,20 +51,20 @@ first_fault here ss load ds unknown =
     first_of (first_of (first_of (first_of (first (in_statements ss here)) load) (first (block_conflicts ss)))
     (first (repeated ds))) unknown
 
--- what files see: a prelude, if there is one, and the names of a dialect
+-- what files see: a prelude, if there is one, and the names of a language
 pub record Outside : Type 0 where
   pub prelude : Option Prelude
-  pub dialect : Dialect
+  pub language : Language
 
-abbrev pub outside : Option Prelude → Dialect → Outside
-outside prelude d = record { prelude = prelude; dialect = d }
+abbrev pub outside : Option Prelude → Language → Outside
+outside prelude language = record { prelude = prelude; language = language }
 
-abbrev pub outside_seen : Option (Bor Prelude) → Dialect → Outside
-outside_seen prelude d = outside (option_copied prelude) d
+abbrev pub outside_seen : Option (Bor Prelude) → Bor Language → Outside
+outside_seen prelude language = outside (option_copied prelude) language.now
 
--- what is outside of a file: the names of the prelude that it sees, and the dialect
+-- what is outside of a file: the names of the prelude that it sees, and the language
 abbrev pub outer_for : ℕ → Outside → Outer
-outer_for n o = record { names = option_map (λ q. q.names) (seen_by n o.prelude); dialect = o.dialect }
+outer_for n o = record { names = option_map (λ q. q.names) (seen_by n o.prelude); language = o.language }
 
 -- all static faults of a file, by the surroundings of its statements, what is outside of it, and its load statements,
 -- each beside its target

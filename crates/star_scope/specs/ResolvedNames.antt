@@ -25,8 +25,8 @@ AllHaveSpots spots blocks outer (u ∷ us) = HasSpot spots blocks outer u × All
 -- spots that are there stay; the uses have theirs; and the first undefined name is found, among these and before
 pub record Places (scope : Scope) (us : List Use) (old new : ResolvedNames) : Type 0 where
   pub kept : Keeps old.spots new.spots
-  pub have : AllHaveSpots (spot_at new.spots) scope.blocks.now (outer_shown scope.prelude scope.dialect) us
-  pub found : new.first ≡ first_from old.first (undefined scope.blocks.now (outer_shown scope.prelude scope.dialect) us)
+  pub have : AllHaveSpots (spot_at new.spots) scope.blocks.now (outer_shown scope.prelude scope.language) us
+  pub found : new.first ≡ first_from old.first (undefined scope.blocks.now (outer_shown scope.prelude scope.language) us)
 
 -- the names of a file among these blocks: the first undefined one is found
 abbrev pub HasFirst : List Block → Outer → List Statement → ResolvedNames → Type 0

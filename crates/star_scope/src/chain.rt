@@ -3,11 +3,12 @@
 ghost use Rattle.std.specs.Prelude.{◌≡◌, ◌≤◌, ◌∷◌, [], ◌+◌, length, map, IfOk};
 ghost use Rattle.star_scope.specs.Chains.{names_outside, outer_shown};
 ghost use Rattle.star_outline.specs.Names.{has_name};
-ghost use Rattle.star_scope.specs.Places.{chain_length, outermost_names, outside_spot, prelude_has, spot_of};
+ghost use Rattle.star_dialect.specs.Words.{index_of};
+ghost use Rattle.star_scope.specs.Places.{chain_length, outermost_names, outside_spot, own_names, prelude_has, spot_of};
 
 use crate::loads::is_private;
 use crate::spot::Spot;
-use star_dialect::Dialect;
+use star_dialect::{Dialect, Language};
 use star_outline::binders::Bound;
 use star_outline::blocks::BlockNames;
 use std::alloc::AllocError;
@@ -43,12 +44,12 @@ impl<'c> Model for Chain<'c> {
 }
 
 /// The binders of a name: the blocks of the file, the names of the prelude's block, if there is one, and the outermost
-/// block of a dialect.
+/// block of a language.
 #[derive(Clone, Copy)]
 pub(crate) struct Scope<'s, 't> {
     pub(crate) blocks: &'s Bound<'s, 't>,
     pub(crate) prelude: Option<&'s BlockNames<'t>>,
-    pub(crate) dialect: Dialect,
+    pub(crate) language: &'s Language,
 }
 
 fn prelude_has(prelude: Option<&BlockNames<'_>>, name: &str) -> bool
@@ -105,8 +106,9 @@ fn is_among(mut names: &[&str], name: &str) -> bool
     false
 }
 
-fn is_outermost(dialect: Dialect, name: &str) -> bool
-    ensures { result ≡ has_name (outermost_names dialect) name.now }
+/// Whether the language itself has a name, in its outermost block.
+pub fn is_own(dialect: Dialect, name: &str) -> bool
+    ensures { result ≡ has_name (own_names dialect) name.now }
 {
     match dialect {
         Dialect::Core => is_among(&OUTERMOST, name),
@@ -114,13 +116,20 @@ fn is_outermost(dialect: Dialect, name: &str) -> bool
     }
 }
 
+/// Whether the outermost block of a language has a name.
+fn is_outermost(language: &Language, name: &str) -> bool
+    ensures { result ≡ has_name (outermost_names language.now) name.now }
+{
+    is_own(language.dialect, name) || language.recorded.index(name).is_some()
+}
+
 /// The spot of a name outside of the file; `None` if neither the prelude nor the outermost block has it.
-fn outside_spot(prelude: Option<&BlockNames<'_>>, dialect: Dialect, name: &str) -> Option<Spot>
-    ensures { result ≡ outside_spot (outer_shown prelude.entry dialect) name.now }
+fn outside_spot(prelude: Option<&BlockNames<'_>>, language: &Language, name: &str) -> Option<Spot>
+    ensures { result ≡ outside_spot (outer_shown prelude.entry language.entry) name.now }
 {
     if prelude_has(prelude, name) {
         Some(Spot::Prelude)
-    } else if is_outermost(dialect, name) {
+    } else if is_outermost(language, name) {
         Some(Spot::Outermost)
     } else {
         None
@@ -157,7 +166,7 @@ impl<'c> Chain<'c> {
 
     /// The spot of a name: in the first block that binds it, else outside of the file. `None` if the name is undefined.
     pub(crate) fn spot_of(&self, scope: &Scope<'_, '_>, name: &str) -> Option<Spot>
-        ensures spot { result ≡ spot_of scope.now.blocks.now (outer_shown scope.now.prelude scope.now.dialect)
+        ensures spot { result ≡ spot_of scope.now.blocks.now (outer_shown scope.now.prelude scope.now.language)
             name.now self.now }
         ensures short { length self.now ≤ chain_length }
     {
@@ -173,7 +182,7 @@ impl<'c> Chain<'c> {
         }
         match scope.blocks.slot(0, name) {
             Some(slot) => Some(Spot::Frame { up, slot }),
-            None => outside_spot(scope.prelude, scope.dialect, name),
+            None => outside_spot(scope.prelude, scope.language, name),
         }
     }
 }

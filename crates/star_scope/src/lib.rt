@@ -25,7 +25,7 @@
 //! spot leads to the nearest binding of its name.
 #![tactic(auto)]
 
-mod chain;
+pub mod chain;
 pub mod conflicts;
 pub mod error;
 pub mod law;

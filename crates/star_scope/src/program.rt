@@ -19,7 +19,7 @@ use crate::placement::{OF_FILE, OF_PRELUDE, StatementContext, in_statements};
 use crate::spot::Spot;
 use crate::spots::Spots;
 use crate::uses::resolve_names;
-use star_dialect::Dialect;
+use star_dialect::Language;
 use star_label::files::Files;
 use star_outline::blocks::{BlockNames, Blocks};
 use star_outline::names::{add_loaded, add_statements, load_statements};
@@ -275,7 +275,7 @@ impl<'t> Program<'t> {
     }
 }
 
-/// The program of the file `n` with this tree in a dialect, or its first static fault: the one whose token comes first;
+/// The program of the file `n` with this tree in a language, or its first static fault: the one whose token comes first;
 /// at one token, the one whose kind has the lower number (`docs/LANGUAGE.md`, "Scopes and static faults"). Every file
 /// but the prelude itself sees the prelude. In the prelude every load is misplaced. `Memory` if an allocation fails,
 /// and for a tree that no text has: if two definitions, or two names with different spots, have one token, or more than
@@ -286,16 +286,16 @@ pub fn resolve<'t>(
     n: usize,
     tree: &'t Tree,
     prelude: Option<&Prelude<'t>>,
-    dialect: Dialect,
+    language: &Language,
 ) -> Result<Program<'t>, ScopeFault>
     requires { n < length files.now }
-    ensures { Resolves files.now n (outside_seen prelude.entry dialect) tree.now.statements result }
+    ensures { Resolves files.now n (outside_seen prelude.entry language.entry) tree.now.statements result }
 {
     let statements = tree.statements.as_slice();
     let outer = seen_by(n, prelude);
     let loads = find_loads(alloc, files, n, file_of(outer), statements)?;
     let found = outline_of(alloc, statements)?;
-    let placed = resolve_names(alloc, &found.blocks, names_of(outer), dialect, statements)?;
+    let placed = resolve_names(alloc, &found.blocks, names_of(outer), language, statements)?;
     let first = first_fault(
         alloc,
         standing_in(n, prelude),

@@ -13,7 +13,7 @@ use crate::chain::{Chain, Scope};
 use crate::error::{LocatedFault, ScopeFault, earlier};
 use crate::spots::Spots;
 use sqlite_items::Boxed;
-use star_dialect::Dialect;
+use star_dialect::Language;
 use star_outline::binders::Bound;
 use star_outline::blocks::{BlockNames, Blocks};
 use star_tree::tree::{
@@ -545,9 +545,9 @@ fn place_all(
     statements: &[Statement],
 ) -> Result<ResolvedNames, AllocError>
     ensures first { IfOk result (λ placed. HasFirst scope.now.blocks.now
-        (outer_shown scope.now.prelude scope.now.dialect) statements.now placed) }
+        (outer_shown scope.now.prelude scope.now.language) statements.now placed) }
     ensures spots { IfOk result (λ placed. HasSpots scope.now.blocks.now
-        (outer_shown scope.now.prelude scope.now.dialect) statements.now placed) }
+        (outer_shown scope.now.prelude scope.now.language) statements.now placed) }
 {
     let mut placed = ResolvedNames {
         spots: Spots::new(alloc)?,
@@ -558,7 +558,7 @@ fn place_all(
 }
 
 /// The spots of all names of a file with these statements and blocks and, if there is one, this prelude's block, in a
-/// dialect. Also the first undefined name: one that no block around it, no prelude and no built-in binds
+/// language. Also the first undefined name: one that no block around it, no prelude and no built-in binds
 /// (`docs/LANGUAGE.md`, "Scopes and static faults").
 ///
 /// `Memory` if an allocation fails, and for a tree that no text has: if two names with different spots have one token,
@@ -567,20 +567,20 @@ pub fn resolve_names<'s, 't>(
     alloc: Global,
     blocks: &'s Blocks<'t>,
     prelude: Option<&'s BlockNames<'t>>,
-    dialect: Dialect,
+    language: &'s Language,
     statements: &[Statement],
 ) -> Result<ResolvedNames, ScopeFault>
     ensures first { IfOk result
-        (λ placed. HasFirst blocks.now (outer_shown prelude.entry dialect) statements.now placed) }
+        (λ placed. HasFirst blocks.now (outer_shown prelude.entry language.entry) statements.now placed) }
     ensures spots { IfOk result
-        (λ placed. HasSpots blocks.now (outer_shown prelude.entry dialect) statements.now placed) }
+        (λ placed. HasSpots blocks.now (outer_shown prelude.entry language.entry) statements.now placed) }
     ensures memory { IfErr result (λ e. e ≡ Memory) }
 {
     let bound = Bound::of(alloc, blocks)?;
     let scope = Scope {
         blocks: &bound,
         prelude,
-        dialect,
+        language,
     };
     let mut placed = place_all(alloc, &scope, statements)?;
     placed.spots.settle();

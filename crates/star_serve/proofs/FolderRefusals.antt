@@ -31,11 +31,11 @@ stopped_writes Write k = absurd k
 stopped_writes e k = refl
 
 -- the words are refused
-pub words_refused : (stopped : ServeError → Type 0) (answers : Result Asked ServeError → Type 0) (unwritten : Type 0) (e : ServeError) (given : Result Asked ServeError) → Fails e given → IsOf IsOfWords given → answers given → unwritten → IsRefusedDir stopped answers unwritten e
-words_refused stopped answers unwritten BadRoot given h k a u = (rw h at a, u)
-words_refused stopped answers unwritten NoRoot given h k a u = (rw h at a, u)
-words_refused stopped answers unwritten BadPrelude given h k a u = (rw h at a, u)
-words_refused stopped answers unwritten NoPrelude given h k a u = (rw h at a, u)
+pub words_refused : (stopped : ServeError → Type 0) (answers : Result Asked ServeError → Type 0) (unwritten : Type 0) (e : ServeError) (given : Result Asked ServeError) → Fails e given → IsOf IsOfWords given → ((x : ServeError) → given ≡ Err x → answers (Err x)) → unwritten → IsRefusedDir stopped answers unwritten e
+words_refused stopped answers unwritten BadRoot given h k a u = (a BadRoot h, u)
+words_refused stopped answers unwritten NoRoot given h k a u = (a NoRoot h, u)
+words_refused stopped answers unwritten BadPrelude given h k a u = (a BadPrelude h, u)
+words_refused stopped answers unwritten NoPrelude given h k a u = (a NoPrelude h, u)
 words_refused stopped answers unwritten Memory given h k a u = u
 words_refused stopped answers unwritten e given h k a u = absurd (rw h at k)
 

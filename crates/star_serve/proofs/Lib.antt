@@ -2,10 +2,12 @@ pub mod Streams
 pub mod Refusals
 pub mod FolderRefusals
 pub mod Spoken
+pub mod Recording
 pub mod Traced
 pub mod RepoRefusals
 pub mod Zipped
 pub mod WrittenTexts
+pub mod GotWritten
 pub mod Checked
 pub mod Shown
 pub mod GoodEnds

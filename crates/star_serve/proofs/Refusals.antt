@@ -90,7 +90,7 @@ pub asked_kind : (roots : List (List ℕ)) (p : Option (List ℕ)) (input : List
 unfolding asked_of
 asked_kind roots p input = bind_kind IsFault {A = List File} {B = Asked} (files_of input) _ (files_kind input) (λ files. words_kind IsFault roots p files tt tt tt tt)
 
-pub refused_by : (answers : Result Asked ServeError → Type 0) (within longer unwritten : Type 0) (e : ServeError) (given : Result Asked ServeError) → Fails e given → IsOf IsFault given → answers given → unwritten → IsRefused answers within longer unwritten e
+pub refused_by : (answers : Result Asked ServeError → Type 0) (within longer unwritten : Type 0) (e : ServeError) (given : Result Asked ServeError) → Fails e given → IsOf IsFault given → ((x : ServeError) → given ≡ Err x → answers (Err x)) → unwritten → IsRefused answers within longer unwritten e
 refused_by answers within longer unwritten Read given h k a u = absurd (rw h at k)
 refused_by answers within longer unwritten TooBig given h k a u = absurd (rw h at k)
 refused_by answers within longer unwritten BadDir given h k a u = absurd (rw h at k)
@@ -99,7 +99,7 @@ refused_by answers within longer unwritten NotText given h k a u = absurd (rw h 
 refused_by answers within longer unwritten Memory given h k a u = u
 refused_by answers within longer unwritten Write given h k a u = absurd (rw h at k)
 refused_by answers within longer unwritten Unpublished given h k a u = absurd (rw h at k)
-refused_by answers within longer unwritten e given h k a u = (rw h at a, u)
+refused_by answers within longer unwritten e given h k a u = (a e h, u)
 
 pub no_read_failed : (e : ServeError) (given : Result Asked ServeError) → Fails e given → IsOf IsFault given → reads_failed {T = Bool} (Err e) ≡ 0
 no_read_failed Read given h k = absurd (rw h at k)

@@ -70,16 +70,16 @@ run_refused given unwritten Unpublished asked h is = ((asked, is), h)
 run_refused given unwritten e asked h is = absurd h
 
 -- a refusal of files that were read
-pub read_refused : (said : Said) (roots : List (List ℕ)) (p : Option (List ℕ)) (files : List File) (unwritten : Type 0) (e : ServeError) → AreFilesFor said roots p files → AreLabels roots p
-    → IsRefusedOf (asked_among roots p files) unwritten e → IsRefusedAll said roots p unwritten e
-read_refused said roots p files unwritten BadRoot are labels h = absurd (subst (IsOf IsOfFiles) h.0 (labels_kind roots p files labels))
-read_refused said roots p files unwritten NoRoot are labels h = ((files, are, h.0), h.1)
-read_refused said roots p files unwritten BadPrelude are labels h = absurd (subst (IsOf IsOfFiles) h.0 (labels_kind roots p files labels))
-read_refused said roots p files unwritten NoPrelude are labels h = ((files, are, h.0), h.1)
-read_refused said roots p files unwritten Memory are labels h = h
-read_refused said roots p files unwritten Write are labels h = (h.0, (files, are, h.1))
-read_refused said roots p files unwritten Unpublished are labels h = ((h.0.0, (files, are, h.0.1)), h.1)
-read_refused said roots p files unwritten e are labels h = absurd h
+pub read_refused : (said : Said) (roots : List (List ℕ)) (p : Option (List ℕ)) (files : List File) (recorded : Bool) (unwritten : Type 0) (e : ServeError) → AreFilesFor said roots p files → AreLabels roots p
+    → IsRefusedOf (asked_among roots p files) unwritten e → IsRefusedAll said roots p recorded unwritten e
+read_refused said roots p files recorded unwritten BadRoot are labels h = absurd (subst (IsOf IsOfFiles) h.0 (labels_kind roots p files labels))
+read_refused said roots p files recorded unwritten NoRoot are labels h = ((files, are, h.0), h.1)
+read_refused said roots p files recorded unwritten BadPrelude are labels h = absurd (subst (IsOf IsOfFiles) h.0 (labels_kind roots p files labels))
+read_refused said roots p files recorded unwritten NoPrelude are labels h = ((files, are, h.0), h.1)
+read_refused said roots p files recorded unwritten Memory are labels h = h
+read_refused said roots p files recorded unwritten Write are labels h = (h.0, (files, are, h.1))
+read_refused said roots p files recorded unwritten Unpublished are labels h = ((h.0.0, (files, are, h.0.1)), h.1)
+read_refused said roots p files recorded unwritten e are labels h = absurd h
 
 -- the files of an input are those that its words are looked up in
 asked_so : (files : List File) (p : Result (Option ℕ) ServeError) (ns : List ℕ) (a : Asked) → (p >>= λ q. Ok (record { files = files; roots = ns; prelude = q })) ≡ Ok a → a.files ≡ files

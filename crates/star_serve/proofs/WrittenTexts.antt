@@ -2,7 +2,7 @@
 use Rattle.std.proofs.Common.{◌≡◌, ◌<◌, ℕ, Bool, true, false, List, [], Option, length, map, sym, subst, Result, Ok, Err}
 use Rattle.std.specs.Prelude.{IfOk}
 use Rattle.std.specs.List.{All}
-use Rattle.star_dialect.specs.declared.Dialect.{Dialect}
+use Rattle.star_dialect.specs.declared.Language.{Language}
 use Rattle.star_dialect.specs.declared.Mode.{Mode}
 use Rattle.star_label.specs.Files.{File}
 use Rattle.star_outcome.specs.Kept.{AllGood, AreModules, AreModulesOf, KeptView, RunView}
@@ -16,7 +16,7 @@ use Rattle.star_report.specs.Shelf.{LeadToFiles}
 use Rattle.star_report.specs.Shown.{IsReportBut}
 use Rattle.star_report.specs.Wanted.{Full, IsFullText}
 use Rattle.star_report.specs.declared.wanted.Output.{Output}
-use Rattle.star_report.specs.declared.wanted.Output.TheVariants.{Check, Global, Graph, Report}
+use Rattle.star_report.specs.declared.wanted.Output.TheVariants.{Calls, Check, Global, Graph, Report}
 use Rattle.star_report.specs.declared.wanted.Wanted.{Wanted}
 use Rattle.star_report.proofs.Planned.{lead_to_files}
 use Rattle.star_serve.specs.Trace.{is_said}
@@ -36,10 +36,10 @@ pub lead_files : (files : List File) (row : Row) → length row ≡ length files
 lead_files files row size within n = subst (λ k. All (λ l. l.file < k) (loads_at row n)) size (within n)
 
 -- the readings of files have a place for each file, and loads within the files
-pub row_size : (files : List File) (roots : List ℕ) (prelude : Option ℕ) (d : Dialect) (row : Row) → IsReadOf files roots prelude d row → length row ≡ length files
+pub row_size : (files : List File) (roots : List ℕ) (prelude : Option ℕ) (d : Language) (row : Row) → IsReadOf files roots prelude d row → length row ≡ length files
 row_size files roots prelude d row (block, prelude_is, rows) = rows.sized
 
-pub lead_within : (files : List File) (roots : List ℕ) (prelude : Option ℕ) (d : Dialect) (row : Row) → IsReadOf files roots prelude d row → LeadWithin row
+pub lead_within : (files : List File) (roots : List ℕ) (prelude : Option ℕ) (d : Language) (row : Row) → IsReadOf files roots prelude d row → LeadWithin row
 lead_within files roots prelude d row read n = subst (λ k. All (λ l. l.file < k) (loads_at row n)) (sym (row_size files roots prelude d row read)) (lead_to_files files roots prelude d row read n)
 
 -- the answer, by the modules of a run
@@ -47,23 +47,25 @@ pub answer_of : (plan : Plan) (ks : List KeptView) (ok : Bool) → AreModules pl
 answer_of plan ks ok are good bad = (ks, are, good, bad)
 
 -- a fact of each plan that has this run is a fact of the plan of the files
-pub in_plan_of : (files : List File) (roots : List ℕ) (prelude : Option ℕ) (mode : Mode) (row : Row) (run : RunView) (P : Plan → Type 0) → run.begun ≡ length run.kept → AreModulesOf files roots prelude mode run.kept → IsReadOf files roots prelude mode.dialect row
+pub in_plan_of : (files : List File) (roots : List ℕ) (prelude : Option ℕ) (mode : Mode) (row : Row) (run : RunView) (P : Plan → Type 0) → run.begun ≡ length run.kept → AreModulesOf files roots prelude mode run.kept → IsReadOf files roots prelude mode.language row
     → ((plan : Plan) → IsRunOf files roots row run plan → P plan) → InPlanOf files roots prelude mode P
 in_plan_of files roots prelude mode row run P begun (plan, planned, of_roots, of_prelude, of_mode, are) read each =
-    (plan, planned, of_roots, of_prelude, of_mode, each plan (record { planned = planned; roots_are = of_roots; read = subst (λ (m : Mode). IsReadOf files roots plan.prelude m.dialect row) (sym of_mode) (subst (λ p. IsReadOf files roots p mode.dialect row) (sym of_prelude) read); modules = are; begun = begun }))
+    (plan, planned, of_roots, of_prelude, of_mode, each plan (record { planned = planned; roots_are = of_roots; read = subst (λ (m : Mode). IsReadOf files roots plan.prelude m.language row) (sym of_mode) (subst (λ p. IsReadOf files roots p mode.language row) (sym of_prelude) read); modules = are; begun = begun }))
 
 -- .. where the run was of roots that are the same
-pub in_plan_of_same : (files : List File) (roots given : List ℕ) (prelude : Option ℕ) (mode : Mode) (row : Row) (run : RunView) (P : Plan → Type 0) → given ≡ roots → run.begun ≡ length run.kept → AreModulesOf files given prelude mode run.kept → IsReadOf files given prelude mode.dialect row
+pub in_plan_of_same : (files : List File) (roots given : List ℕ) (prelude : Option ℕ) (mode : Mode) (row : Row) (run : RunView) (P : Plan → Type 0) → given ≡ roots → run.begun ≡ length run.kept → AreModulesOf files given prelude mode run.kept → IsReadOf files given prelude mode.language row
     → ((plan : Plan) → IsRunOf files roots row run plan → P plan) → InPlanOf files roots prelude mode P
 in_plan_of_same files roots given prelude mode row run P same begun are read =
-    in_plan_of files roots prelude mode row run P begun (subst (λ rs. AreModulesOf files rs prelude mode run.kept) same are) (subst (λ rs. IsReadOf files rs prelude mode.dialect row) same read)
+    in_plan_of files roots prelude mode row run P begun (subst (λ rs. AreModulesOf files rs prelude mode run.kept) same are) (subst (λ rs. IsReadOf files rs prelude mode.language row) same read)
 
 none_said : (output : Output) (files : List File) (plan : Plan) (ok : Bool) (line : List ℕ) → IsSaid output files plan ok line → is_said output ok ≡ false → line ≡ []
 none_said (Report wanted) files plan ok line is none = is
 none_said (Global name) files plan true line is none = is
 none_said (Global name) files plan false line is none = absurd (let no : ⊥ = cc in no)
+none_said (Calls name) files plan true line is none = is
+none_said (Calls name) files plan false line is none = absurd (let no : ⊥ = cc in no)
 none_said Graph files plan ok line is none = is
-none_said (Check only_roots) files plan ok line is none = is
+none_said (Check only_roots calls) files plan ok line is none = is
 
 -- an output that has no line beside it has an empty line
 pub not_said : (output : Output) (files : List File) (roots : List ℕ) (prelude : Option ℕ) (mode : Mode) (ok : Bool) (line : List ℕ) → InPlanOf files roots prelude mode (λ plan. IsSaid output files plan ok line) → is_said output ok ≡ false → line ≡ []

@@ -1,11 +1,11 @@
 -- The answer of the program for files that roots reach in a folder.
-use Rattle.std.specs.Prelude.{◌≡◌, ℕ, List, Option, Result, Ok, Err}
+use Rattle.std.specs.Prelude.{◌≡◌, ℕ, List, Bool, false, Option, Result, Ok, Err}
 use Rattle.star_label.specs.Files.{File}
 use Rattle.star_bundle.specs.Bundle.{Asked, asked_among}
 use Rattle.star_bundle.specs.declared.error.ServeError.{ServeError}
-use Rattle.star_bundle.specs.declared.error.ServeError.TheVariants.{BadPrelude, BadRoot, Memory, NoPrelude, NoRoot, Unpublished, Write}
-use Rattle.star_words.specs.Named.{IsMisnamed}
-use Rattle.star_serve.specs.Serve.{prelude_word, root_words}
+use Rattle.star_bundle.specs.declared.error.ServeError.TheVariants.{BadPrelude, BadRecord, BadRoot, Memory, NoPrelude, NoRoot, Unpublished, Write}
+use Rattle.star_words.specs.Named.{AreLabels, IsMisnamed}
+use Rattle.star_serve.specs.Serve.{AsksAmong, prelude_word, root_words}
 use Rattle.star_serve.specs.declared.serve.Options.{Options}
 use Rattle.star_repo.specs.Asked.{AreFilesFor, IsUnread}
 use Rattle.star_repo.specs.Held.{Said}
@@ -19,19 +19,28 @@ AsksOf said roots prelude given =
 
 -- .. by the words of the options
 abbrev pub AsksForRepo : Said → Options → Result Asked ServeError → Type 0
-AsksForRepo said options given = AsksOf said (root_words options) (prelude_word options) given
+AsksForRepo said options given =
+    (files : List File) × AreFilesFor said (root_words options) (prelude_word options) files
+    × AsksAmong files options given
 
--- a refusal that is not about one file: first of the words, then of the input that is asked for, then of the run
-abbrev pub IsRefusedAll : Said → List (List ℕ) → Option (List ℕ) → Type 0 → ServeError → Type 0
-IsRefusedAll said roots prelude unwritten BadRoot = IsMisnamed roots prelude BadRoot × unwritten
-IsRefusedAll said roots prelude unwritten BadPrelude = IsMisnamed roots prelude BadPrelude × unwritten
-IsRefusedAll said roots prelude unwritten NoRoot = AsksOf said roots prelude (Err NoRoot) × unwritten
-IsRefusedAll said roots prelude unwritten NoPrelude = AsksOf said roots prelude (Err NoPrelude) × unwritten
-IsRefusedAll said roots prelude unwritten Memory = unwritten
-IsRefusedAll said roots prelude unwritten Unpublished =
+-- a refusal before anything is read: of a word, or else of the names whose calls are to be recorded
+abbrev pub IsUnrecorded : List (List ℕ) → Option (List ℕ) → ServeError → Type 0
+IsUnrecorded roots prelude BadRecord = AreLabels roots prelude
+IsUnrecorded roots prelude e = IsMisnamed roots prelude e
+
+-- A refusal that is not about one file: first of the words, then of the names whose calls are to be recorded, then of
+-- the input that is asked for, then of the run. `recorded` says whether these names may have that.
+abbrev pub IsRefusedAll : Said → List (List ℕ) → Option (List ℕ) → Bool → Type 0 → ServeError → Type 0
+IsRefusedAll said roots prelude recorded unwritten BadRoot = IsMisnamed roots prelude BadRoot × unwritten
+IsRefusedAll said roots prelude recorded unwritten BadPrelude = IsMisnamed roots prelude BadPrelude × unwritten
+IsRefusedAll said roots prelude recorded unwritten BadRecord = AreLabels roots prelude × (recorded ≡ false) × unwritten
+IsRefusedAll said roots prelude recorded unwritten NoRoot = AsksOf said roots prelude (Err NoRoot) × unwritten
+IsRefusedAll said roots prelude recorded unwritten NoPrelude = AsksOf said roots prelude (Err NoPrelude) × unwritten
+IsRefusedAll said roots prelude recorded unwritten Memory = unwritten
+IsRefusedAll said roots prelude recorded unwritten Unpublished =
     ((asked : Asked) × AsksOf said roots prelude (Ok asked)) × unwritten
-IsRefusedAll said roots prelude unwritten Write = (asked : Asked) × AsksOf said roots prelude (Ok asked)
-IsRefusedAll said roots prelude unwritten e = ⊥
+IsRefusedAll said roots prelude recorded unwritten Write = (asked : Asked) × AsksOf said roots prelude (Ok asked)
+IsRefusedAll said roots prelude recorded unwritten e = ⊥
 
 -- A refusal of the input that is asked for, or of its run.
 abbrev pub IsRefusedOf : Result Asked ServeError → Type 0 → ServeError → Type 0
@@ -46,10 +55,11 @@ IsRefusedOf given unwritten e = ⊥
 
 -- The meaning of a refusal. If it is about the file at a label, this file is the first, by its round and its label,
 -- that does not pass.
-abbrev pub IsRefusedRepo : Said → List (List ℕ) → Option (List ℕ) → Type 0 → RepoError → Type 0
-IsRefusedRepo said roots prelude unwritten (why.File label error) =
+abbrev pub IsRefusedRepo : Said → List (List ℕ) → Option (List ℕ) → Bool → Type 0 → RepoError → Type 0
+IsRefusedRepo said roots prelude recorded unwritten (why.File label error) =
     IsUnread said roots prelude (why.File label error) × unwritten
-IsRefusedRepo said roots prelude unwritten (why.Run error) = IsRefusedAll said roots prelude unwritten error
+IsRefusedRepo said roots prelude recorded unwritten (why.Run error) =
+    IsRefusedAll said roots prelude recorded unwritten error
 
 -- one write failed if the answer is so, else none
 abbrev pub failed_write : RepoError → ℕ

@@ -1,5 +1,6 @@
 -- The answer of the program for a bundle, or for the files of a folder by its walk.
-use Rattle.std.specs.Prelude.{◌≡◌, ⊤, ℕ, ◌<◌, ◌≤◌, List, length, map, Bool, Option, None, option_map, Result, Ok, Err, string_bytes}
+use Rattle.std.specs.Prelude.{◌≡◌, ⊤, ℕ, ◌<◌, ◌≤◌, List, length, map, Bool, true, ◌&&◌, is_some, Option, None, option_map, Result, Ok, Err, string_bytes}
+use Rattle.star_dialect.specs.Words.{index_of}
 use Rattle.star_dialect.specs.declared.Mode.{Mode}
 use Rattle.star_label.specs.Files.{File}
 use Rattle.star_folder.specs.Folder.{Contents}
@@ -9,11 +10,14 @@ use Rattle.star_serve.specs.Trace.{Traces}
 use Rattle.star_serve.specs.declared.serve.Job.{Job}
 use Rattle.star_serve.specs.declared.serve.Options.{Options}
 use Rattle.star_bundle.specs.Bundle.{Asked, asked_among, asked_of}
+use Rattle.star_bundle.specs.Refusal.{if_so}
 use Rattle.star_bundle.specs.View.{asked_view}
+use Rattle.star_reading.specs.Record.{are_recordable}
 use Rattle.star_report.specs.Output.{InPlanOf, IsOutput}
 use Rattle.star_report.specs.declared.wanted.Output.{Output}
+use Rattle.star_report.specs.declared.wanted.Output.TheVariants.{Calls}
 use Rattle.star_bundle.specs.declared.error.ServeError.{ServeError}
-use Rattle.star_bundle.specs.declared.error.ServeError.TheVariants.{Read, TooBig, BadBundle, BadKey, TooMany, TooLong, BadRoot, NoRoot, BadPrelude, NoPrelude, Memory, Write, Unpublished}
+use Rattle.star_bundle.specs.declared.error.ServeError.TheVariants.{Read, TooBig, BadBundle, BadKey, TooMany, TooLong, BadRoot, NoRoot, BadPrelude, NoPrelude, BadRecord, Memory, Write, Unpublished}
 
 -- the most bytes that are read
 abbrev pub input_limit : ℕ
@@ -43,14 +47,30 @@ root_words options = map string_bytes options.roots.items
 abbrev pub prelude_word : Options → Option (List ℕ)
 prelude_word options = option_map string_bytes options.prelude
 
+-- whether the calls that are asked for are recorded
+abbrev pub has_calls : Output → List (List ℕ) → Bool
+has_calls (Calls name) names = is_some (index_of (string_bytes name) names)
+has_calls output names = true
+
+-- whether the names whose calls are to be recorded may have that, and the calls that are asked for are among them
+abbrev pub may_record : Options → Bool
+may_record options =
+    let names = options.mode.language.recorded in are_recordable names && has_calls options.output names
+
+-- the input, unless it is refused for the names whose calls are to be recorded: this refusal comes last
+abbrev pub recording : Options → Result Asked ServeError → Result Asked ServeError
+recording options given = if_so (may_record options) BadRecord given
+
 -- this is the input that the options ask for, of bytes that were read up to their end, or its refusal
 abbrev pub Asks : Said → Said → Options → Result Asked ServeError → Type 0
 Asks old new options given =
-    (input : List ℕ) × ReadsAll old new input × (asked_of (root_words options) (prelude_word options) input ≡ given)
+    (input : List ℕ) × ReadsAll old new input
+    × (recording options (asked_of (root_words options) (prelude_word options) input) ≡ given)
 
 -- .. of these files
 abbrev pub AsksAmong : List File → Options → Result Asked ServeError → Type 0
-AsksAmong files options given = asked_among (root_words options) (prelude_word options) files ≡ given
+AsksAmong files options given =
+    recording options (asked_among (root_words options) (prelude_word options) files) ≡ given
 
 -- .. of the files of a folder, by a walk that came to its end
 abbrev pub AsksForDir : Contents → Options → Result Asked ServeError → Type 0
@@ -114,6 +134,7 @@ IsRefusedDir stopped answers unwritten BadRoot = answers (Err BadRoot) × unwrit
 IsRefusedDir stopped answers unwritten NoRoot = answers (Err NoRoot) × unwritten
 IsRefusedDir stopped answers unwritten BadPrelude = answers (Err BadPrelude) × unwritten
 IsRefusedDir stopped answers unwritten NoPrelude = answers (Err NoPrelude) × unwritten
+IsRefusedDir stopped answers unwritten BadRecord = answers (Err BadRecord) × unwritten
 IsRefusedDir stopped answers unwritten Memory = unwritten
 IsRefusedDir stopped answers unwritten Unpublished = ((asked : Asked) × answers (Ok asked)) × unwritten
 IsRefusedDir stopped answers unwritten Write = (asked : Asked) × answers (Ok asked)

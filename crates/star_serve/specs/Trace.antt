@@ -7,7 +7,7 @@ use Rattle.star_outcome.specs.Refusals.{AreRefusalsOf}
 use Rattle.star_outcome.specs.declared.trace.CyclicLoad.{CyclicLoad}
 use Rattle.star_report.specs.Output.{InPlanOf, IsSaid}
 use Rattle.star_report.specs.declared.wanted.Output.{Output}
-use Rattle.star_report.specs.declared.wanted.Output.TheVariants.{Check, Global, Graph, Report}
+use Rattle.star_report.specs.declared.wanted.Output.TheVariants.{Calls, Check, Global, Graph, Report}
 use Rattle.star_serve.specs.Stream.{Adds}
 
 -- the line of a load
@@ -46,5 +46,6 @@ Traces output asked mode all_ok trace old new =
 abbrev pub is_said : Output → Bool → Bool
 is_said (Report wanted) all_ok = false
 is_said (Global name) all_ok = not all_ok
+is_said (Calls name) all_ok = not all_ok
 is_said Graph all_ok = false
-is_said (Check only_roots) all_ok = false
+is_said (Check only_roots calls) all_ok = false

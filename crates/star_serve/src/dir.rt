@@ -6,7 +6,7 @@ ghost use Rattle.star_folder.specs.Refusal.{IsStopped, files_failed, listings_fa
 ghost use Rattle.star_serve.specs.Serve.{AsksForDir, IsRefusedDir, IsServed};
 ghost use Rattle.star_serve.specs.Trace.{is_said};
 
-use crate::serve::{Options, reported};
+use crate::serve::{Options, may_record, reported};
 use crate::stream::Sink;
 use star_bundle::bundle::asked_in;
 use star_bundle::error::ServeError;
@@ -66,5 +66,8 @@ pub fn serve_dir<H: Threads + Wait + Sync, F: Folder, W: Sink, E: Sink>(
         Ok(asked) => asked,
         Err(error) => return Err(error),
     };
+    if !may_record(options) {
+        return Err(ServeError::BadRecord);
+    }
     reported(rt, alloc, &asked, writer, errors, options)
 }

@@ -1,15 +1,15 @@
 //! `serve_repo`: from the files that roots reach in a folder to the report's bytes.
 
-ghost use Rattle.std.specs.Prelude.{false, ◌≡◌, ◌+◌, ◌≤◌, None, IfOk, IfErr};
+ghost use Rattle.std.specs.Prelude.{false, true, ◌≡◌, ◌+◌, ◌≤◌, None, IfOk, IfErr};
 ghost use Rattle.star_bundle.specs.Bundle.{asked_among};
 ghost use Rattle.star_bundle.specs.Refusal.{writes_failed};
 ghost use Rattle.star_reading.specs.Parsed.{AreParsesOf};
 ghost use Rattle.star_repo.specs.Asked.{finds_failed};
-ghost use Rattle.star_serve.specs.Repo.{AsksForRepo, IsRefusedOf, IsRefusedRepo, repo_writes_failed};
-ghost use Rattle.star_serve.specs.Serve.{AsksAmong, IsServed, prelude_word, root_words};
+ghost use Rattle.star_serve.specs.Repo.{AsksForRepo, IsRefusedOf, IsRefusedRepo, IsUnrecorded, repo_writes_failed};
+ghost use Rattle.star_serve.specs.Serve.{AsksAmong, IsServed, may_record, prelude_word, root_words};
 ghost use Rattle.star_serve.specs.Trace.{is_said};
 
-use crate::serve::{Job, Options, reported_over};
+use crate::serve::{Job, Options, may_record, reported_over};
 use crate::stream::Sink;
 use star_bundle::bundle::asked_in;
 use star_bundle::error::ServeError;
@@ -19,6 +19,7 @@ use star_repo::error::RepoError;
 use star_repo::parse::Parsing;
 use star_repo::reach::Reached;
 use star_repo::repo::Repo;
+use star_words::named::asked_labels;
 use std::alloc::Global;
 use std::mem;
 use std::sync::Wait;
@@ -34,6 +35,7 @@ fn reported_of<'t, H: Threads + Wait + Sync, W: Sink, E: Sink>(
     errors: &mut E,
     options: &Options,
 ) -> Result<bool, ServeError>
+    requires recorded { may_record options.now ≡ true }
     requires parsed { AreParsesOf reached.files reached.parses.items }
     requires loaders { (1 ≤ options.now.loaders) × (options.now.loaders ≤ 64) }
     requires steps { (1 ≤ options.now.mode.steps) × (options.now.mode.steps ≤ 100000000) }
@@ -69,6 +71,18 @@ fn reported_of<'t, H: Threads + Wait + Sync, W: Sink, E: Sink>(
     outcome
 }
 
+/// The refusal of options before anything is read: of the word of a label, or else of the names whose calls are to be
+/// recorded.
+fn unrecorded(alloc: Global, options: &Options) -> ServeError
+    ensures { let o = options.now in IsUnrecorded (root_words o) (prelude_word o) result }
+{
+    match asked_labels(alloc, options.roots.as_slice(), options.prelude.as_ref()) {
+        Ok(_) => {}
+        Err(error) => return error,
+    }
+    ServeError::BadRecord
+}
+
 /// Loads the roots from the files that they reach in a folder and writes the report, and to `errors` the trace and the
 /// message to a person, where these are wanted. It answers whether every module of the report is ok. Only what is
 /// reached is looked up, and each text is parsed once.
@@ -98,10 +112,10 @@ pub fn serve_repo<H: Threads + Wait + Sync, F: Repo, W: Sink, E: Sink>(
         → is_said options.now.output all_ok ≡ false → errors.new ≡ errors.old) }
     ensures unsaid { IfErr result (λ _. errors.new ≡ errors.old) }
 
-    // A word is not a label, or a file is refused, or the input that is asked for among the files is refused, and
-    // nothing was written.
+    // A word is not a label, or a name may not be recorded, or a file is refused, or the input that is asked for among
+    // the files is refused, and nothing was written.
     ensures refused { IfErr result (IsRefusedRepo (F.says folder.old) (root_words options.now)
-        (prelude_word options.now) (writer.new ≡ writer.old)) }
+        (prelude_word options.now) (may_record options.now) (writer.new ≡ writer.old)) }
 
     // A read or a write failed just where the answer says so.
     ensures reads { F.failed folder.new ≡ F.failed folder.old + finds_failed result }
@@ -115,6 +129,11 @@ pub fn serve_repo<H: Threads + Wait + Sync, F: Repo, W: Sink, E: Sink>(
             });
         }
     };
+    if !may_record(options) {
+        return Err(RepoError::Run {
+            error: unrecorded(alloc, options),
+        });
+    }
     let parsing = Parsing {
         trees: &trees.all,
         known: None,

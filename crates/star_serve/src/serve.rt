@@ -10,7 +10,7 @@ ghost use Rattle.star_reading.specs.Found.{AreKnown, IsReadOf};
 ghost use Rattle.star_reading.specs.Parsed.{AreParsesOf};
 ghost use Rattle.star_report.specs.Output.{InPlanOf};
 ghost use Rattle.star_report.specs.declared.wanted.Output.TheVariants as output;
-ghost use Rattle.star_serve.specs.Serve.{Asks, IsOutputFor, IsRefusedInput, IsRefusedRun, IsServed, IsTraced, Reports, asked_in};
+ghost use Rattle.star_serve.specs.Serve.{Asks, IsOutputFor, IsRefusedInput, IsRefusedRun, IsServed, IsTraced, Reports, asked_in, may_record};
 ghost use Rattle.star_serve.specs.Trace.{IsSaidFor, is_said};
 
 pub use crate::progress::Progress;
@@ -24,7 +24,7 @@ use star_bundle::bundle::{AskedFor, asked_for};
 use star_bundle::error::ServeError;
 use star_check::check::{Checked, check};
 use star_check::verdict::Judged;
-use star_dialect::{Dialect, Mode};
+use star_dialect::{Language, Mode};
 pub use star_explain::explain::{Form, Style};
 use star_explain::explain::{explain, explain_check};
 use star_host::{
@@ -33,6 +33,7 @@ use star_host::{
 };
 use star_mistakes::statics::Sources;
 use star_outcome::memory::{Size, threads_for};
+use star_reading::record::are_recordable;
 pub use star_report::wanted::{Output, Wanted};
 use std::alloc::{AllocError, Global};
 use std::mem;
@@ -95,20 +96,21 @@ fn checked<'t, H: Threads + Wait + Sync>(
     job: &Job<'_, 't>,
     reads: &mut Reads<'t>,
     loaders: usize,
-    mode: Mode,
+    mode: &Mode,
     only_roots: bool,
+    calls: bool,
 ) -> Result<Checked, AllocError>
     requires parses { AreParsesOf job.now.asked.now.files job.now.parses.now }
-    requires reads { AreKnown job.now.asked.now.files job.now.asked.now.prelude mode.dialect
+    requires reads { AreKnown job.now.asked.now.files job.now.asked.now.prelude mode.now.language
         reads.old.all.items }
     requires roots { All (λ n. n < length job.now.asked.now.files) job.now.asked.now.roots.items }
     requires prelude { IfSome job.now.asked.now.prelude (λ n. n < length job.now.asked.now.files) }
     ensures text { IfOk result (λ c.
-        IsOutputFor (output.Check only_roots) (asked_in job.now) mode c.text.items c.all_ok) }
+        IsOutputFor (output.Check only_roots calls) (asked_in job.now) mode.now c.text.items c.all_ok) }
     ensures read { let a = job.now.asked.now in IfOk result (λ _.
-        IsReadOf a.files a.roots.items a.prelude mode.dialect reads.new.all.items) }
+        IsReadOf a.files a.roots.items a.prelude mode.now.language reads.new.all.items) }
     ensures others { let a = job.now.asked.now in IfOk result (λ _.
-        AreKnown a.files a.prelude mode.dialect reads.new.others.items) }
+        AreKnown a.files a.prelude mode.now.language reads.new.others.items) }
 {
     let files = &job.asked.files;
     let roots = job.asked.roots.as_slice();
@@ -116,7 +118,7 @@ fn checked<'t, H: Threads + Wait + Sync>(
         files,
         trees: job.trees,
         parses: job.parses,
-        dialect: mode.dialect,
+        language: &mode.language,
     };
     let before = mem::replace(reads, Reads::new(alloc));
     let read = read_parsed(
@@ -128,7 +130,7 @@ fn checked<'t, H: Threads + Wait + Sync>(
         job.asked.prelude,
         threads_for(loaders, job.ballast.is_some()),
     )?;
-    let it = check(alloc, files, &read, roots, only_roots)?;
+    let it = check(alloc, files, &read, roots, only_roots, calls)?;
     *reads = read;
     Ok(it)
 }
@@ -144,7 +146,7 @@ fn answered<'t, H: Threads + Wait + Sync>(
     options: &Options,
 ) -> Result<Answer, ServeError>
     requires parses { AreParsesOf job.now.asked.now.files job.now.parses.now }
-    requires reads { AreKnown job.now.asked.now.files job.now.asked.now.prelude options.now.mode.dialect
+    requires reads { AreKnown job.now.asked.now.files job.now.asked.now.prelude options.now.mode.language
         reads.old.all.items }
     requires ends { let a = job.now.asked.now in
         AreGoodEndsOf a.files a.roots.items a.prelude options.now.mode ends.now }
@@ -163,9 +165,9 @@ fn answered<'t, H: Threads + Wait + Sync>(
     ensures modules { let a = job.now.asked.now in IfOk result (λ answer.
         AreModulesOf a.files a.roots.items a.prelude options.now.mode answer.run.kept) }
     ensures read { let a = job.now.asked.now in IfOk result (λ _.
-        IsReadOf a.files a.roots.items a.prelude options.now.mode.dialect reads.new.all.items) }
+        IsReadOf a.files a.roots.items a.prelude options.now.mode.language reads.new.all.items) }
     ensures others { let a = job.now.asked.now in IfOk result (λ _.
-        AreKnown a.files a.prelude options.now.mode.dialect reads.new.others.items) }
+        AreKnown a.files a.prelude options.now.mode.language reads.new.others.items) }
 {
     let asked = job.asked;
     let files = &asked.files;
@@ -185,7 +187,7 @@ fn answered<'t, H: Threads + Wait + Sync>(
         roots,
         prelude: asked.prelude,
         loaders: options.loaders,
-        mode: options.mode,
+        mode: &options.mode,
         seed: options.seed,
         ballast: job.ballast,
     };
@@ -208,19 +210,20 @@ fn check_over<'t, H: Threads + Wait + Sync>(
     reads: &mut Reads<'t>,
     options: &Options,
     only_roots: bool,
+    calls: bool,
 ) -> Result<Written, ServeError>
     requires parses { AreParsesOf job.now.asked.now.files job.now.parses.now }
-    requires reads { AreKnown job.now.asked.now.files job.now.asked.now.prelude options.now.mode.dialect
+    requires reads { AreKnown job.now.asked.now.files job.now.asked.now.prelude options.now.mode.language
         reads.old.all.items }
     requires roots { All (λ n. n < length job.now.asked.now.files) job.now.asked.now.roots.items }
     requires prelude { IfSome job.now.asked.now.prelude (λ n. n < length job.now.asked.now.files) }
     ensures kinds { IfErr result (λ e. (e ≡ ServeError.Memory) ⊎ (e ≡ ServeError.Unpublished)) }
     ensures text { IfOk result (λ w.
-        IsOutputFor (output.Check only_roots) (asked_in job.now) options.now.mode w.text.items w.all_ok) }
+        IsOutputFor (output.Check only_roots calls) (asked_in job.now) options.now.mode w.text.items w.all_ok) }
     ensures read { let a = job.now.asked.now in IfOk result (λ _.
-        IsReadOf a.files a.roots.items a.prelude options.now.mode.dialect reads.new.all.items) }
+        IsReadOf a.files a.roots.items a.prelude options.now.mode.language reads.new.all.items) }
     ensures others { let a = job.now.asked.now in IfOk result (λ _.
-        AreKnown a.files a.prelude options.now.mode.dialect reads.new.others.items) }
+        AreKnown a.files a.prelude options.now.mode.language reads.new.others.items) }
 {
     match checked(
         rt,
@@ -228,8 +231,9 @@ fn check_over<'t, H: Threads + Wait + Sync>(
         job,
         reads,
         options.loaders,
-        options.mode,
+        &options.mode,
         only_roots,
+        calls,
     ) {
         Ok(it) => {
             let Checked { text, all_ok, .. } = it;
@@ -283,7 +287,7 @@ pub fn written_over<'t, H: Threads + Wait + Sync>(
     options: &Options,
 ) -> Result<Finished, ServeError>
     requires parses { AreParsesOf job.now.asked.now.files job.now.parses.now }
-    requires reads { AreKnown job.now.asked.now.files job.now.asked.now.prelude options.now.mode.dialect
+    requires reads { AreKnown job.now.asked.now.files job.now.asked.now.prelude options.now.mode.language
         reads.old.all.items }
     requires ends { let a = job.now.asked.now in
         AreGoodEndsOf a.files a.roots.items a.prelude options.now.mode ends.now }
@@ -297,12 +301,12 @@ pub fn written_over<'t, H: Threads + Wait + Sync>(
     ensures ends { let a = job.now.asked.now in IfOk result (λ f.
         InPlanOf a.files a.roots.items a.prelude options.now.mode (λ p. AreReachedEnds p f.ends.items)) }
     ensures read { let a = job.now.asked.now in IfOk result (λ _.
-        IsReadOf a.files a.roots.items a.prelude options.now.mode.dialect reads.new.all.items) }
+        IsReadOf a.files a.roots.items a.prelude options.now.mode.language reads.new.all.items) }
     ensures others { let a = job.now.asked.now in IfOk result (λ _.
-        AreKnown a.files a.prelude options.now.mode.dialect reads.new.others.items) }
+        AreKnown a.files a.prelude options.now.mode.language reads.new.others.items) }
 {
-    if let Output::Check { only_roots } = options.output {
-        let written = check_over(rt, alloc, job, reads, options, only_roots)?;
+    if let Output::Check { only_roots, calls } = options.output {
+        let written = check_over(rt, alloc, job, reads, options, only_roots, calls)?;
         return Ok(Finished {
             written,
             ends: Vec::new(alloc),
@@ -334,7 +338,7 @@ fn write_explained<E: Sink>(
     asked: &AskedFor,
     reads: &Reads,
     run: &mut Run,
-    dialect: Dialect,
+    language: &Language,
     form: Option<Form>,
 )
     ensures { form ≡ None → errors.new ≡ errors.old }
@@ -343,7 +347,7 @@ fn write_explained<E: Sink>(
         return;
     };
     let (files, roots) = (&asked.files, asked.roots.as_slice());
-    let sources = Sources::new(alloc, files, asked.prelude, dialect);
+    let sources = Sources::new(alloc, files, asked.prelude, language);
     if let Ok(text) = explain(sources, reads, run, roots, form) {
         let _ = errors.write(text.as_bytes());
     }
@@ -357,7 +361,7 @@ fn write_judged<E: Sink>(
     asked: &AskedFor,
     reads: &Reads,
     judged: &[Judged],
-    dialect: Dialect,
+    language: &Language,
     form: Option<Form>,
 )
     ensures { form ≡ None → errors.new ≡ errors.old }
@@ -366,7 +370,7 @@ fn write_judged<E: Sink>(
         return;
     };
     let (files, roots) = (&asked.files, asked.roots.as_slice());
-    let sources = Sources::new(alloc, files, asked.prelude, dialect);
+    let sources = Sources::new(alloc, files, asked.prelude, language);
     if let Ok(text) = explain_check(sources, reads, judged, roots, form) {
         let _ = errors.write(text.as_bytes());
     }
@@ -382,11 +386,12 @@ fn checked_over<'t, H: Threads + Wait + Sync, W: Sink, E: Sink>(
     errors: &mut E,
     options: &Options,
     only_roots: bool,
+    calls: bool,
 ) -> Result<bool, ServeError>
     requires parses { AreParsesOf job.now.asked.now.files job.now.parses.now }
     requires roots { All (λ n. n < length job.now.asked.now.files) job.now.asked.now.roots.items }
     requires prelude { IfSome job.now.asked.now.prelude (λ n. n < length job.now.asked.now.files) }
-    ensures ok { IfOk result (Reports (output.Check only_roots) (asked_in job.now) options.now.mode
+    ensures ok { IfOk result (Reports (output.Check only_roots calls) (asked_in job.now) options.now.mode
         (W.taken writer.old) (W.taken writer.new)) }
     ensures untold { IfOk result (λ _. options.now.explain ≡ None → errors.new ≡ errors.old) }
     ensures refused { IfErr result (IsRefusedRun (writer.new ≡ writer.old)) }
@@ -404,8 +409,9 @@ fn checked_over<'t, H: Threads + Wait + Sync, W: Sink, E: Sink>(
         job,
         &mut reads,
         options.loaders,
-        options.mode,
+        &options.mode,
         only_roots,
+        calls,
     ) {
         Ok(it) => it,
         Err(_) => return Err(ServeError::Memory),
@@ -414,14 +420,14 @@ fn checked_over<'t, H: Threads + Wait + Sync, W: Sink, E: Sink>(
         return Err(ServeError::Write);
     }
     let judged = judged.as_slice();
-    let dialect = options.mode.dialect;
+    let language = &options.mode.language;
     write_judged(
         alloc,
         errors,
         job.asked,
         &reads,
         judged,
-        dialect,
+        language,
         options.explain,
     );
     // The process ends next, and the system takes back all of its memory at once.
@@ -454,8 +460,8 @@ pub(crate) fn reported_over<'t, H: Threads + Wait + Sync, W: Sink, E: Sink>(
     ensures unsaid { IfErr result (λ _. errors.new ≡ errors.old) }
     ensures writes { W.failed writer.new ≡ W.failed writer.old + writes_failed result }
 {
-    if let Output::Check { only_roots } = options.output {
-        return checked_over(rt, alloc, job, writer, errors, options, only_roots);
+    if let Output::Check { only_roots, calls } = options.output {
+        return checked_over(rt, alloc, job, writer, errors, options, only_roots, calls);
     }
     let asked = job.asked;
     let mut reads = Reads::new(alloc);
@@ -476,14 +482,14 @@ pub(crate) fn reported_over<'t, H: Threads + Wait + Sync, W: Sink, E: Sink>(
         run.refused(),
         options.trace,
     );
-    let dialect = options.mode.dialect;
+    let language = &options.mode.language;
     write_explained(
         alloc,
         errors,
         asked,
         &reads,
         &mut run,
-        dialect,
+        language,
         options.explain,
     );
     // The process ends next, and the system takes back all of its memory at once.
@@ -528,6 +534,19 @@ pub(crate) fn reported<H: Threads + Wait + Sync, W: Sink, E: Sink>(
     // The process ends next, and the system takes back all of its memory at once.
     mem::forget(trees);
     outcome
+}
+
+/// Whether the options ask for calls that may be recorded: each name is one whose calls may be, and if the calls of a name
+/// are asked for, it is one of them.
+pub(crate) fn may_record(options: &Options) -> bool
+    ensures { result ≡ may_record options.now }
+{
+    let recorded = &options.mode.language.recorded;
+    are_recordable(recorded.names())
+        && match &options.output {
+            Output::Calls(name) => recorded.index(name.as_str()).is_some(),
+            _ => true,
+        }
 }
 
 /// Reads a bundle, loads the roots and writes the report, and to `errors` the trace and the message to a person, where
@@ -577,6 +596,9 @@ pub fn serve<H: Threads + Wait + Sync, R: Source, W: Sink, E: Sink>(
         Ok(asked) => asked,
         Err(error) => return Err(error),
     };
+    if !may_record(options) {
+        return Err(ServeError::BadRecord);
+    }
     // The texts have rows of their own, so the bundle's bytes are freed to make room for the run.
     drop(bytes);
     reported(rt, alloc, &asked, writer, errors, options)

@@ -9,13 +9,14 @@ ghost use Rattle.star_report.specs.Drawn.{LeadWithin};
 ghost use Rattle.star_outcome.specs.Kept.{AllGood, RunView};
 ghost use Rattle.star_report.specs.Output.{IsSaid};
 ghost use Rattle.star_report.specs.declared.wanted.Output.TheVariants as output;
-ghost use Rattle.star_serve.specs.Written.{IsLineOf, IsTextOf};
+ghost use Rattle.star_serve.specs.Written.{IsGotWritten, IsLackBelow, IsLineOf, IsTextOf};
 
 use crate::serve::{Job, Options};
 use star_check::check::{Checked, check};
 use star_host::{Reads, Run};
 use star_label::files::Files;
 use star_outcome::memory::threads_for;
+use star_report::calls::calls_of_roots;
 use star_report::got::{Got, Lack, globals_of};
 use star_report::graph::graph;
 use star_report::report::{ReportOptions, all_good, report};
@@ -108,6 +109,25 @@ fn lack_line(alloc: Global, files: &Files, root: usize, why: Lack) -> Result<Str
     format!(in alloc; "starload: {root}: {why}\n")
 }
 
+/// These lines, or else the line about a root.
+fn got_written(alloc: Global, files: &Files, got: Got) -> Result<Written, AllocError>
+    requires { IsLackBelow (length files.now) got }
+    ensures { IfOk result (IsGotWritten files.now got) }
+{
+    match got {
+        Got::Lines(text) => Ok(Written {
+            text,
+            said: String::new(alloc),
+            all_ok: true,
+        }),
+        Got::Lack { root, why } => Ok(Written {
+            text: Vec::new(alloc),
+            said: lack_line(alloc, files, root, why)?,
+            all_ok: false,
+        }),
+    }
+}
+
 /// The globals of the roots, if each has its own, or else the line about the first root that has none.
 fn globals_written(
     alloc: Global,
@@ -124,18 +144,28 @@ fn globals_written(
     ensures said { IfOk result (λ w. (row : Row)
         → IsLineOf (output.Global name.now) files.now roots.now row run.old w.all_ok (string_bytes w.said)) }
 {
-    match globals_of(alloc, files, run, roots, name.as_str())? {
-        Got::Lines(text) => Ok(Written {
-            text,
-            said: String::new(alloc),
-            all_ok: true,
-        }),
-        Got::Lack { root, why } => Ok(Written {
-            text: Vec::new(alloc),
-            said: lack_line(alloc, files, root, why)?,
-            all_ok: false,
-        }),
-    }
+    let got = globals_of(alloc, files, run, roots, name.as_str())?;
+    got_written(alloc, files, got)
+}
+
+/// The calls of a name that the roots recorded, if all roots are ok, or else the line about the first that is not.
+fn calls_written(
+    alloc: Global,
+    files: &Files,
+    run: &mut Run,
+    roots: &[usize],
+    name: &String,
+) -> Result<Written, AllocError>
+    requires files { length run.old.cells ≡ length files.now }
+    requires roots { All (λ n. n < length files.now) roots.now }
+    ensures same { run.new ≡ run.old }
+    ensures text { IfOk result (λ w. (row : Row)
+        → IsTextOf (output.Calls name.now) files.now roots.now row run.old w.text.items w.all_ok) }
+    ensures said { IfOk result (λ w. (row : Row)
+        → IsLineOf (output.Calls name.now) files.now roots.now row run.old w.all_ok (string_bytes w.said)) }
+{
+    let got = calls_of_roots(alloc, files, run, roots, name.as_str())?;
+    got_written(alloc, files, got)
 }
 
 /// The check of the files that were read. The answer is whether there is nothing against any file.
@@ -145,17 +175,18 @@ fn check_written(
     reads: &Reads,
     roots: &[usize],
     only_roots: bool,
+    calls: bool,
 ) -> Result<Written, AllocError>
     requires loads { LeadWithin reads.now.all.items }
     requires reads { length reads.now.all.items ≡ length files.now }
     ensures text { IfOk result (λ w. (run : RunView)
-        → IsTextOf (output.Check only_roots) files.now roots.now reads.now.all.items run w.text.items w.all_ok) }
+        → IsTextOf (output.Check only_roots calls) files.now roots.now reads.now.all.items run w.text.items w.all_ok) }
     ensures said { IfOk result (λ w. (plan : Plan)
-        → IsSaid (output.Check only_roots) files.now plan w.all_ok (string_bytes w.said)) }
+        → IsSaid (output.Check only_roots calls) files.now plan w.all_ok (string_bytes w.said)) }
 {
     // A call of the files lets the checker use that they are in order.
     let _count = files.len();
-    let it = check(alloc, files, reads, roots, only_roots)?;
+    let it = check(alloc, files, reads, roots, only_roots, calls)?;
     let Checked { text, all_ok, .. } = it;
     let said = String::new(alloc);
     Ok(Written { text, said, all_ok })
@@ -187,7 +218,10 @@ pub(crate) fn written_of<R: Threads + Sync>(
             report_written(rt, alloc, job, reads, run, *wanted, options.loaders)
         }
         Output::Global(name) => globals_written(alloc, files, run, roots, name),
+        Output::Calls(name) => calls_written(alloc, files, run, roots, name),
         Output::Graph => graph_written(alloc, files, reads, run),
-        Output::Check { only_roots } => check_written(alloc, files, reads, roots, *only_roots),
+        Output::Check { only_roots, calls } => {
+            check_written(alloc, files, reads, roots, *only_roots, *calls)
+        }
     }
 }

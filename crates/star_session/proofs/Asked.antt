@@ -6,6 +6,7 @@ use Rattle.serde_json.specs.Data.{Data, Items, item, no_items, Members, member, 
 use Rattle.serde_json.specs.Find.{as_str}
 use Rattle.star_bundle.specs.Bundle.{is_label}
 use Rattle.star_bundle.specs.View.{if_label}
+use Rattle.star_dialect.specs.Words.{with_name}
 use Rattle.star_label.specs.View.{text_of}
 use Rattle.star_label.specs.declared.label.Label.{Label}
 use Rattle.star_report.specs.declared.wanted.Wanted.{Wanted}
@@ -13,7 +14,7 @@ use Rattle.star_session.specs.Changes.{Change}
 use Rattle.star_session.specs.declared.request.Origin.{Origin}
 use Rattle.star_words.specs.Words.{label_of_path}
 use Rattle.star_session.specs.declared.request.RequestError.{RequestError}
-use Rattle.star_session.specs.Requests.{◌>>=◌, Asking, IsWhy, bad_changed, bad_files, bad_label, bad_roots, bad_with, changes_of, gone_at, gone_in, text_or_null, texts_in, with_member, with_members, with_word, with_words}
+use Rattle.star_session.specs.Requests.{◌>>=◌, Asking, IsWhy, bad_changed, bad_files, bad_label, bad_names, bad_roots, bad_with, changes_of, gone_at, gone_in, names_in, text_or_null, texts_in, with_member, with_members, with_word, with_words}
 
 -- rows after a front
 abbrev pub after : {A : Type 0} → List A → Result (List A) (List ℕ) → Result (List A) (List ℕ)
@@ -90,6 +91,19 @@ words_unknown w word d ds h k = rw (h, k) refl
 pub words_done : (w : Wanted) → with_words w no_items ≡ Ok w
 unfolding with_words
 words_done w = refl
+
+-- a name, and the items after it
+pub names_next : (ns : List (List ℕ)) (name : List ℕ) (d : Data) (ds : Items) → as_str d ≡ Some name → names_in ns (item d ds) ≡ names_in (with_name ns name) ds
+unfolding names_in
+names_next ns name d ds h = rw h refl
+
+pub names_stop : (ns : List (List ℕ)) (d : Data) (ds : Items) → as_str d ≡ None → names_in ns (item d ds) ≡ Err bad_names
+unfolding names_in
+names_stop ns d ds h = rw h refl
+
+pub names_done : (ns : List (List ℕ)) → names_in ns no_items ≡ Ok ns
+unfolding names_in
+names_done ns = refl
 
 -- a member, and those after it
 pub members_next : (o : Origin) (a more : Asking) (k : List ℕ) (d : Data) (ms : Members) → with_member o a k d ≡ Ok more → with_members o a (member k d ms) ≡ with_members o more ms

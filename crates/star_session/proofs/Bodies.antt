@@ -1,14 +1,15 @@
 -- The text of a report without its line end, and the outcomes that its run leaves.
-use Rattle.std.proofs.Common.{◌≡◌, ◌-◌, ◌+◌, ℕ, List, [], ◌∷◌, ◌++◌, Bool, Option, length, take, refl, ap, sym, ◌∙◌, subst, length-append, arith}
+use Rattle.std.proofs.Common.{◌≡◌, ◌-◌, ◌+◌, ℕ, List, [], ◌∷◌, ◌++◌, Bool, false, true, Option, length, take, refl, ap, sym, ◌∙◌, subst, length-append, append_assoc, arith}
 use Rattle.std.proofs.Math.Seq.{take-append_seam}
 use Rattle.std.specs.List.{filter}
 use Rattle.std.specs.Prelude.{map}
-use Rattle.std.specs.Prelude.{codes}
+use Rattle.std.specs.Prelude.{codes, decimal}
 use Rattle.serde_json.specs.Data.{Data, array, member, no_members, number, object, unsigned}
 use Rattle.serde_json.specs.View.{items_of}
 use Rattle.serde_json.specs.Written.{compact_text}
 use Rattle.star_dialect.specs.declared.Mode.{Mode}
-use Rattle.star_report.specs.Wanted.{Full, full_data, is_shown}
+use Rattle.star_report.specs.Joined.{joined_text, listed}
+use Rattle.star_report.specs.Wanted.{Full, full_data, full_row, is_shown, whole_text}
 use Rattle.star_label.specs.Files.{File, IsOrdered}
 use Rattle.star_outcome.specs.GoodEnds.{AreReachedEnds}
 use Rattle.star_outcome.specs.declared.good_end.GoodEnd.{GoodEnd}
@@ -32,6 +33,14 @@ record Ends (text : List ℕ) : Type 0 where
   body : List ℕ
   is : text ≡ body ++ 10 ∷ []
 
+joined_text-ends : (begun : ℕ) (texts : List (List ℕ)) → Ends (joined_text begun texts)
+joined_text-ends begun texts =
+    let all : List ℕ = listed false texts in
+    record {
+      body = codes "{\"begun\":" ++ (decimal begun ++ (codes ",\"modules\":[" ++ (all ++ codes "]}")));
+      is = sym (ap (λ x. codes "{\"begun\":" ++ x) (append_assoc (decimal begun) (codes ",\"modules\":[" ++ (all ++ codes "]}")) (10 ∷ []) ∙ ap (λ x. decimal begun ++ (codes ",\"modules\":[" ++ x)) (append_assoc all (codes "]}") (10 ∷ []))));
+    }
+
 full_text-ends : (wanted : Wanted) (files : List File) (plan : Plan) (begun : ℕ) (fulls : List Full) → Ends (full_text wanted files plan begun fulls)
 unfolding full_text
 full_text-ends wanted files plan begun fulls = record {
@@ -39,9 +48,12 @@ full_text-ends wanted files plan begun fulls = record {
   is = refl;
 }
 
+whole_text-ends : (b : Bool) (wanted : Wanted) (files : List File) (plan : Plan) (begun : ℕ) (fulls : List Full) → Ends (whole_text b wanted files plan begun fulls)
+whole_text-ends false wanted files plan begun fulls = full_text-ends wanted files plan begun fulls
+whole_text-ends true wanted files plan begun fulls = joined_text-ends begun (map (full_row wanted files) (filter (is_shown wanted plan) fulls))
+
 ends : (wanted : Wanted) (files : List File) (plan : Plan) (text : List ℕ) → IsFullText wanted files plan text → take (length text - 1) text ++ 10 ∷ [] ≡ text
-unfolding full_text
-ends wanted files plan text full = by (full_text wanted files plan full.begun full.fulls) (full_text-ends wanted files plan full.begun full.fulls) full.text_is
+ends wanted files plan text full = by (whole_text wanted.calls wanted files plan full.begun full.fulls) (whole_text-ends wanted.calls wanted files plan full.begun full.fulls) full.text_is
   where
     by : (t : List ℕ) → Ends t → text ≡ t → take (length text - 1) text ++ 10 ∷ [] ≡ text
     by t h e = without_end text h.body (e ∙ h.is)

@@ -11,3 +11,4 @@ pub mod Named
 pub mod Seen
 pub mod Parts
 pub mod Moving
+pub mod Same

@@ -1,15 +1,16 @@
 -- The question about the files after changes, and its refusals.
-use Rattle.std.proofs.Common.{◌≡◌, ℕ, List, [], ◌∷◌, ◌++◌, Bool, subst, Option, None, Some, Result, Ok, Err, String, Bor, Global, string_bytes, inl, inr, refl, ap, sym, ◌∙◌}
-use Rattle.std.specs.Prelude.{◌⊎◌}
+use Rattle.std.proofs.Common.{◌≡◌, ℕ, List, [], ◌∷◌, ◌++◌, Bool, true, false, subst, Option, None, Some, Result, Ok, Err, String, Bor, Global, string_bytes, inl, inr, refl, ap, sym, ◌∙◌}
+use Rattle.std.specs.Prelude.{◌⊎◌, if◌then◌else◌}
 use Rattle.std.specs.Option.{option_copied, option_map}
 use Rattle.star_label.specs.Files.{File, limit_passed}
 use Rattle.star_bundle.specs.Bundle.{Asked, asked_among, prelude_of, roots_of, within_limits, ◌>>=◌}
 use Rattle.star_bundle.specs.Refusal.{Fails}
 use Rattle.star_bundle.specs.declared.error.ServeError.{ServeError}
-use Rattle.star_bundle.specs.declared.error.ServeError.TheVariants.{Memory}
+use Rattle.star_bundle.specs.declared.error.ServeError.TheVariants.{BadRecord, Memory}
+use Rattle.star_reading.specs.Record.{are_recordable}
 use Rattle.star_report.specs.Output.{InPlanOf, IsOutput}
 use Rattle.star_report.specs.declared.wanted.Output.TheVariants.{Report}
-use Rattle.star_session.specs.Answers.{IsRefusalOf, IsReportOf, asked_after, asks_among}
+use Rattle.star_session.specs.Answers.{IsRefusalOf, IsReportOf, asked_after, asks_among, recording}
 use Rattle.star_session.specs.Changes.{files_after}
 use Rattle.star_session.specs.Requests.{Asking, asked_by, question_of}
 use Rattle.star_session.specs.declared.question.Question.{Question}
@@ -28,6 +29,24 @@ fails_or_memory : {Y : Type 0} (e : ServeError) (given : Result Y ServeError) �
 fails_or_memory Memory given h = inr refl
 fails_or_memory e given h = inl h
 
+if_true : {A : Type 0} (b : Bool) (x y : A) → b ≡ true → (if b then x else y) ≡ x
+if_true true x y h = refl
+if_true false x y h = absurd (let no : ⊥ = cc in no)
+
+if_false : {A : Type 0} (b : Bool) (x y : A) → b ≡ false → (if b then x else y) ≡ y
+if_false true x y h = absurd (let no : ⊥ = cc in no)
+if_false false x y h = refl
+
+-- the names whose calls are to be recorded may have that
+abbrev pub MayRecord : Asking → Bool → Type 0
+MayRecord a may = are_recordable a.mode.language.recorded ≡ may
+
+recorded_ok : (a : Asking) (given : Result Asked ServeError) (asked : Asked) → MayRecord a true → given ≡ Ok asked → recording a given ≡ Ok asked
+recorded_ok a given asked may is = ap (recording a) is ∙ if_true (are_recordable a.mode.language.recorded) (Ok asked) (Err BadRecord) may
+
+recorded_not : (a : Asking) (given : Result Asked ServeError) (asked : Asked) → MayRecord a false → given ≡ Ok asked → recording a given ≡ Err BadRecord
+recorded_not a given asked may is = ap (recording a) is ∙ if_false (are_recordable a.mode.language.recorded) (Ok asked) (Err BadRecord) may
+
 -- the limits of the files
 abbrev limited : List File → Asking → Result (List File) ServeError
 limited before a = within_limits (files_after before a.changes) (limit_passed (files_after before a.changes))
@@ -37,7 +56,7 @@ pub limit_refused : (before : List File) (a : Asking) (e : ServeError) → Fails
 limit_refused before a e h = by (fails_or_memory e (limited before a) h)
   where
     by : (limited before a ≡ Err e) ⊎ (e ≡ Memory) → IsRefusalOf before a e
-    by (inl is) = inl (ap (λ r. r >>= λ files. asked_among a.roots a.prelude files) is)
+    by (inl is) = inl (ap (λ r. recording a (r >>= λ files. asked_among a.roots a.prelude files)) is)
     by (inr is) = inr (inl is)
 
 -- words that are not labels of these files
@@ -48,13 +67,23 @@ words_refused before files a roots prelude e ok rs p h = by (fails_or_memory e (
     same = ap (λ r. asked_among r prelude files) rs ∙ ap (λ q. asked_among a.roots q files) p
 
     by : (asked_among roots prelude files ≡ Err e) ⊎ (e ≡ Memory) → IsRefusalOf before a e
-    by (inl is) = inl (ap (λ r. r >>= λ fs. asked_among a.roots a.prelude fs) ok ∙ sym same ∙ is)
+    by (inl is) = inl (ap (recording a) (ap (λ r. r >>= λ fs. asked_among a.roots a.prelude fs) ok ∙ sym same ∙ is))
     by (inr is) = inr (inl is)
 
-pub asks : (before files : List File) (a : Asking) (roots : List (List ℕ)) (prelude : Option (List ℕ)) (asked : Asked) → limited before a ≡ Ok files → roots ≡ a.roots → prelude ≡ a.prelude → asked_among roots prelude files ≡ Ok asked → asked_after before a ≡ Ok asked
-asks before files a roots prelude asked ok rs p h =
+found : (before files : List File) (a : Asking) (roots : List (List ℕ)) (prelude : Option (List ℕ)) (asked : Asked) → limited before a ≡ Ok files → roots ≡ a.roots → prelude ≡ a.prelude → asked_among roots prelude files ≡ Ok asked
+    → (limited before a >>= λ fs. asked_among a.roots a.prelude fs) ≡ Ok asked
+found before files a roots prelude asked ok rs p h =
     ap (λ r. r >>= λ fs. asked_among a.roots a.prelude fs) ok
     ∙ sym (ap (λ r. asked_among r prelude files) rs ∙ ap (λ q. asked_among a.roots q files) p) ∙ h
+
+pub asks : (before files : List File) (a : Asking) (roots : List (List ℕ)) (prelude : Option (List ℕ)) (asked : Asked) → MayRecord a true → limited before a ≡ Ok files → roots ≡ a.roots → prelude ≡ a.prelude → asked_among roots prelude files ≡ Ok asked → asked_after before a ≡ Ok asked
+asks before files a roots prelude asked may ok rs p h =
+    recorded_ok a (limited before a >>= λ fs. asked_among a.roots a.prelude fs) asked may (found before files a roots prelude asked ok rs p h)
+
+-- names that may not be recorded
+pub record_refused : (before files : List File) (a : Asking) (roots : List (List ℕ)) (prelude : Option (List ℕ)) (asked : Asked) → MayRecord a false → limited before a ≡ Ok files → roots ≡ a.roots → prelude ≡ a.prelude → asked_among roots prelude files ≡ Ok asked → IsRefusalOf before a BadRecord
+record_refused before files a roots prelude asked may ok rs p h =
+    inl (recorded_not a (limited before a >>= λ fs. asked_among a.roots a.prelude fs) asked may (found before files a roots prelude asked ok rs p h))
 
 with_files : (files : List File) (r : Result (List ℕ) ServeError) (p : Result (Option ℕ) ServeError) (a : Asked) → (r >>= λ ns. p >>= λ q. Ok (record { files = files; roots = ns; prelude = q })) ≡ Ok a → a.files ≡ files
 with_files files (Ok ns) (Ok q) a e = let same : record { files = files; roots = ns; prelude = q } ≡ a = cc in sym (ap (λ (x : Asked). x.files) same)
@@ -74,14 +103,14 @@ limits_kept made entries files e none is =
 
 -- a report for the words that are looked up among files within all limits
 pub report_of_asked : (before files : List File) (a : Asking) (roots : List (List ℕ)) (prelude : Option (List ℕ)) (asked : Asked) (report : List ℕ) (ok : Bool)
-    → limited before a ≡ Ok files → files ≡ files_after before a.changes → roots ≡ a.roots → prelude ≡ a.prelude → asked_among roots prelude files ≡ Ok asked
+    → MayRecord a true → limited before a ≡ Ok files → files ≡ files_after before a.changes → roots ≡ a.roots → prelude ≡ a.prelude → asked_among roots prelude files ≡ Ok asked
     → InPlanOf asked.files asked.roots asked.prelude a.mode (λ plan. IsOutput (Report a.wanted) asked.files plan (report ++ 10 ∷ []) ok)
     → IsReportOf asked.files a report
-report_of_asked before files a roots prelude asked report ok limits same rs p h is =
+report_of_asked before files a roots prelude asked report ok may limits same rs p h is =
     let these : asked.files ≡ files_after before a.changes = asked_files roots prelude files asked h ∙ same in
     record {
       asked = asked;
-      asks = ap (λ fs. asks_among fs a) these ∙ asks before files a roots prelude asked limits rs p h;
+      asks = ap (λ fs. asks_among fs a) these ∙ asks before files a roots prelude asked may limits rs p h;
       ok = ok;
       reports = is;
     }

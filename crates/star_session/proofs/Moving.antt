@@ -7,6 +7,8 @@ use denote.Struct.Tuple.{TupleAt, type_at, parts}
 use denote.Param.Send.{AllSend, IsSend, IsSync, sendable}
 use denote.Param.SendFields.{FieldsHave, as_row_send, declared_send, variants_send, variants_sync}
 use Rattle.std.proofs.Crossing.{crosses}
+use Rattle.star_dialect.proofs.Language.TheSendSync as of_language
+use Rattle.star_dialect.proofs.Mode.TheSendSync as of_mode
 use Rattle.star_label.proofs.files.Files.TheSendSync as of_labels
 use Rattle.star_lex.proofs.token.SyntaxFault.TheSendSync as of_syntax
 use Rattle.star_reading.specs.contracts.reading.Read as read
@@ -44,7 +46,11 @@ pub asked_sync : IsSync asked.the_row
 asked_sync = let l = of_labels.the_sync in search (sendable, crosses) depth 40
 
 pub request_sync : IsSync request.the_row
-request_sync = let l = of_label.the_sync in search (sendable, crosses) depth 40
+request_sync =
+    let l = of_label.the_sync in
+    let g = of_language.the_sync in
+    let m = of_mode.the_sync in
+    search (sendable, crosses) depth 40 fits 100000
 
 parts_send : (Ts : List RattleType) → AllSend Ts → FieldsHave IsSend (parts Ts)
 parts_send [] s = tt

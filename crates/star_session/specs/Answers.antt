@@ -4,10 +4,11 @@ use Rattle.serde_json.specs.Data.{Data, string}
 use Rattle.serde_json.specs.Written.{compact_text}
 use Rattle.star_dialect.specs.declared.Mode.{Mode}
 use Rattle.star_bundle.specs.Bundle.{Asked, asked_among, within_limits, ◌>>=◌}
-use Rattle.star_bundle.specs.Refusal.{text_of}
+use Rattle.star_bundle.specs.Refusal.{if_so, text_of}
 use Rattle.star_bundle.specs.declared.error.ServeError.{ServeError}
-use Rattle.star_bundle.specs.declared.error.ServeError.TheVariants.{Memory, Unpublished}
+use Rattle.star_bundle.specs.declared.error.ServeError.TheVariants.{BadRecord, Memory, Unpublished}
 use Rattle.star_label.specs.Files.{File, limit_passed}
+use Rattle.star_reading.specs.Record.{are_recordable}
 use Rattle.star_report.specs.Output.{InPlanOf, IsOutput}
 use Rattle.star_report.specs.declared.wanted.Output.TheVariants.{Report}
 use Rattle.star_report.specs.declared.wanted.Wanted.{Wanted}
@@ -25,10 +26,15 @@ answer_line id name json = codes "{\"id\":" ++ (id ++ (codes ",\"" ++ (name ++ (
 abbrev pub no_memory_line : List ℕ
 no_memory_line = codes "{\"id\":null,\"refused\":\"out of memory\"}\n"
 
+-- the input, unless it is refused for the names whose calls are to be recorded: this refusal comes last
+abbrev pub recording : Asking → Result Asked ServeError → Result Asked ServeError
+recording a given = if_so (are_recordable a.mode.language.recorded) BadRecord given
+
 -- the input that a request asks for among these files, or its refusal: by the limits of files, by the roots, by the
--- prelude
+-- prelude, by the names whose calls are to be recorded
 abbrev pub asks_among : List File → Asking → Result Asked ServeError
-asks_among files a = within_limits files (limit_passed files) >>= λ fs. asked_among a.roots a.prelude fs
+asks_among files a =
+    recording a (within_limits files (limit_passed files) >>= λ fs. asked_among a.roots a.prelude fs)
 
 -- .. among the files after the changes
 abbrev pub asked_after : List File → Asking → Result Asked ServeError
@@ -64,8 +70,8 @@ IsRefusal id text answer =
     (id_text : List ℕ) × IsIdText id id_text
     × (answer ≡ answer_line id_text (codes "refused") (compact_text (string text)))
 
--- a request is refused so: for its files, its roots or its prelude, or for want of memory, or since a module was not
--- published
+-- a request is refused so: for its files, its roots, its prelude or the names whose calls are to be recorded, or for
+-- want of memory, or since a module was not published
 abbrev pub IsRefusalOf : List File → Asking → ServeError → Type 0
 IsRefusalOf before a e = (asked_after before a ≡ Err e) ⊎ ((e ≡ Memory) ⊎ (e ≡ Unpublished))
 

@@ -1,12 +1,14 @@
 -- The request that a line is: a JSON object.
-use Rattle.std.specs.Prelude.{◌≡◌, ◌≤◌, ◌⊎◌, ℕ, ◌&&◌, ◌||◌, List, [], ◌∷◌, ◌++◌, true, false, length, nat_le, nat_lt, Option, Some, None, Result, Ok, Err, codes, if◌then◌else◌, map, option_map, string_bytes, unwrap_or}
+use Rattle.std.specs.Prelude.{◌≡◌, ◌≤◌, ◌⊎◌, ℕ, ◌&&◌, ◌||◌, List, [], ◌∷◌, ◌++◌, Bool, true, false, length, nat_le, nat_lt, Option, Some, None, Result, Ok, Err, codes, if◌then◌else◌, map, option_map, string_bytes, unwrap_or}
 use Rattle.std.specs.Str.{bytes_eq}
 use Rattle.serde_json.specs.Data.{Data, null, boolean, number, string, array, object, Items, no_items, item, Members, no_members, member}
 use Rattle.serde_json.specs.Written.{IsInOrder, compact_text, has_float}
 use Rattle.serde_json.specs.Find.{as_array, as_number, as_object, as_str, as_u64, get}
 use Rattle.star_bundle.specs.Bundle.{is_label, json_of}
-use Rattle.star_dialect.specs.Words.{dialect_named}
+use Rattle.star_dialect.specs.Words.{dialect_named, with_name}
 use Rattle.star_dialect.specs.declared.Dialect.{Dialect}
+use Rattle.star_dialect.specs.declared.Dialect.TheVariants.{Core, Extended}
+use Rattle.star_dialect.specs.declared.Language.{Language}
 use Rattle.star_dialect.specs.declared.Mode.{Mode}
 use Rattle.star_report.specs.declared.wanted.Wanted.{Wanted}
 use Rattle.star_words.specs.Words.{label_of_path}
@@ -18,7 +20,7 @@ use Rattle.star_session.specs.declared.request.Origin.{Origin}
 use Rattle.star_session.specs.declared.request.Origin.TheVariants.{Folder, Sent}
 use Rattle.star_session.specs.declared.request.Request.{Request}
 use Rattle.star_session.specs.declared.request.RequestError.{RequestError}
-use Rattle.star_session.specs.declared.request.RequestError.TheVariants.{NotObject, NoRoots, BadRoots, NoMember, BadFiles, NoFiles, BadChanged, BadLabel, BadPrelude, BadSteps, BadLanguage, BadWith, Memory}
+use Rattle.star_session.specs.declared.request.RequestError.TheVariants.{NotObject, NoRoots, BadRoots, NoMember, BadFiles, NoFiles, BadChanged, BadLabel, BadPrelude, BadSteps, BadLanguage, BadNames, NoRecord, BadWith, Memory}
 
 -- A request: changes of the files, and the report of the files after them. The report is for these roots, with this
 -- prelude, with files in this mode, and these wanted members.
@@ -152,6 +154,20 @@ language_in d = do
   word ← there_or bad_language (as_str d)
   there_or bad_language (dialect_named word)
 
+abbrev pub bad_names : List ℕ
+bad_names = codes "`record` must be an array of names"
+
+-- names, and those that further items are, each once
+unfoldable pub names_in : List (List ℕ) → Items → Result (List (List ℕ)) (List ℕ)
+names_in names no_items = Ok names
+names_in names (item d ds) = do
+  name ← there_or bad_names (as_str d)
+  names_in (with_name names name) ds
+
+-- the names whose calls are to be recorded
+abbrev pub recorded_in : Data → Result (List (List ℕ)) (List ℕ)
+recorded_in d = there_or bad_names (as_array d) >>= names_in []
+
 abbrev pub bad_with : List ℕ
 bad_with = codes "`with` must be an array of some of values, loads, steps, only-roots"
 
@@ -159,13 +175,13 @@ bad_with = codes "`with` must be an array of some of values, loads, steps, only-
 unfoldable pub with_word : Wanted → List ℕ → Result Wanted (List ℕ)
 with_word w word =
     if bytes_eq word (codes "values")
-    then Ok (record { values = true; loads = w.loads; steps = w.steps; only_roots = w.only_roots })
+    then Ok (record { values = true; loads = w.loads; steps = w.steps; calls = w.calls; only_roots = w.only_roots })
     else (if bytes_eq word (codes "loads")
-    then Ok (record { values = w.values; loads = true; steps = w.steps; only_roots = w.only_roots })
+    then Ok (record { values = w.values; loads = true; steps = w.steps; calls = w.calls; only_roots = w.only_roots })
     else (if bytes_eq word (codes "steps")
-    then Ok (record { values = w.values; loads = w.loads; steps = true; only_roots = w.only_roots })
+    then Ok (record { values = w.values; loads = w.loads; steps = true; calls = w.calls; only_roots = w.only_roots })
     else (if bytes_eq word (codes "only-roots")
-    then Ok (record { values = w.values; loads = w.loads; steps = w.steps; only_roots = true })
+    then Ok (record { values = w.values; loads = w.loads; steps = w.steps; calls = w.calls; only_roots = true })
     else Err bad_with)))
 
 -- .. and with those that further words name
@@ -178,7 +194,7 @@ with_words w (item d ds) = do
 
 -- nothing more, of all modules
 abbrev pub nothing_more : Wanted
-nothing_more = record { values = false; loads = false; steps = false; only_roots = false }
+nothing_more = record { values = false; loads = false; steps = false; calls = false; only_roots = false }
 
 -- the wanted members that a value names
 abbrev pub wanted_in : Data → Result Wanted (List ℕ)
@@ -188,6 +204,13 @@ wanted_in d = there_or bad_with (as_array d) >>= with_words nothing_more
 abbrev pub with_mode : Asking → Mode → Asking
 with_mode a mode =
     record { changes = a.changes; roots = a.roots; prelude = a.prelude; mode = mode; wanted = a.wanted }
+
+-- a language with another dialect, or with other names whose calls are recorded
+abbrev pub with_dialect : Language → Dialect → Language
+with_dialect l dialect = record { dialect = dialect; recorded = l.recorded }
+
+abbrev pub with_recorded : Language → List (List ℕ) → Language
+with_recorded l names = record { dialect = l.dialect; recorded = names }
 
 -- A request with a further member taken into it. The members `id` and `roots` are looked up separately.
 unfoldable pub with_member : Origin → Asking → List ℕ → Data → Result Asking (List ℕ)
@@ -204,14 +227,17 @@ with_member origin a name d =
     Ok (record { changes = a.changes; roots = a.roots; prelude = p; mode = a.mode; wanted = a.wanted }))
     else (if bytes_eq name (codes "steps")
     then steps_in d >>= (λ n.
-    Ok (with_mode a (record { steps = n; dialect = a.mode.dialect })))
+    Ok (with_mode a (record { steps = n; language = a.mode.language })))
     else (if bytes_eq name (codes "language")
     then language_in d >>= (λ l.
-    Ok (with_mode a (record { steps = a.mode.steps; dialect = l })))
+    Ok (with_mode a (record { steps = a.mode.steps; language = with_dialect a.mode.language l })))
+    else (if bytes_eq name (codes "record")
+    then recorded_in d >>= (λ names.
+    Ok (with_mode a (record { steps = a.mode.steps; language = with_recorded a.mode.language names })))
     else (if bytes_eq name (codes "with")
     then wanted_in d >>= (λ w.
     Ok (record { changes = a.changes; roots = a.roots; prelude = a.prelude; mode = a.mode; wanted = w }))
-    else Err (no_member name)))))))
+    else Err (no_member name))))))))
 
 -- .. with further members
 unfoldable pub with_members : Origin → Asking → Members → Result Asking (List ℕ)
@@ -228,6 +254,36 @@ plain defaults roots = record {
   wanted = defaults.wanted;
 }
 
+abbrev pub no_record : List ℕ
+no_record = codes "`record` needs the extended language"
+
+abbrev pub has_names : List (List ℕ) → Bool
+has_names [] = false
+has_names (n ∷ ns) = true
+
+-- whether calls are to be recorded in the core language, which has none
+abbrev pub needs_extended : Dialect → List (List ℕ) → Bool
+needs_extended Core names = has_names names
+needs_extended Extended names = false
+
+-- a request that wants the calls of each module, if any are recorded
+abbrev pub with_calls : Asking → Result Asking (List ℕ)
+with_calls a =
+    if needs_extended a.mode.language.dialect a.mode.language.recorded then Err no_record
+    else Ok (record {
+      changes = a.changes;
+      roots = a.roots;
+      prelude = a.prelude;
+      mode = a.mode;
+      wanted = record {
+        values = a.wanted.values;
+        loads = a.wanted.loads;
+        steps = a.wanted.steps;
+        calls = has_names a.mode.language.recorded;
+        only_roots = a.wanted.only_roots;
+      };
+    })
+
 abbrev pub not_object : List ℕ
 not_object = codes "not a JSON object"
 
@@ -236,7 +292,8 @@ unfoldable pub asking_in : Defaults → Data → Result Asking (List ℕ)
 asking_in defaults d = do
   members ← there_or not_object (as_object d)
   roots ← roots_in d
-  with_members defaults.origin (plain defaults roots) members
+  a ← with_members defaults.origin (plain defaults roots) members
+  with_calls a
 
 abbrev pub line_too_long : List ℕ
 line_too_long = codes "line too long"
@@ -300,6 +357,8 @@ text_of (BadLabel label) = bad_label (string_bytes label)
 text_of BadPrelude = bad_prelude
 text_of BadSteps = bad_steps
 text_of BadLanguage = bad_language
+text_of BadNames = bad_names
+text_of NoRecord = no_record
 text_of BadWith = bad_with
 text_of Memory = codes "out of memory"
 

@@ -9,6 +9,7 @@ ghost use Rattle.star_memo.specs.Readings.{AreReadings};
 ghost use Rattle.star_memo.specs.Lasting.{AreEndsNow};
 ghost use Rattle.star_memo.specs.Parses.{AreKept};
 ghost use Rattle.star_reading.specs.Found.{Within};
+ghost use Rattle.star_report.specs.declared.wanted.Output.TheVariants as output;
 ghost use Rattle.star_session.specs.Answers.{IsRefusalOf, IsReportOf, IsReportText, IsReported};
 ghost use Rattle.star_memo.specs.Outcomes.{AreAlike, AreOutcomes};
 ghost use Rattle.star_session.specs.Changes as spec;
@@ -33,6 +34,7 @@ use star_memo::readings::Readings;
 use star_outcome::good_end::GoodEnd;
 use star_outcome::memory::{Ballast, Size};
 use star_reading::reading::Read;
+use star_reading::record::are_recordable;
 use star_report::wanted::{Output, Wanted};
 use star_serve::serve::{Finished, Job, Options, written_over};
 use std::alloc::{AllocError, Global};
@@ -61,7 +63,7 @@ fn run_over<H: Threads + Wait + Sync>(
     requires ends { AreEndsNow asked.now.files asked.now.prelude options.now.mode staying.old.outcomes.all.items }
     requires readings { AreReadings asked.now.files staying.old.readings }
     requires seen { staying.old.readings.prelude ≡ asked.now.prelude }
-    requires dialect { staying.old.readings.dialect ≡ options.now.mode.dialect }
+    requires language { staying.old.readings.language ≡ options.now.mode.language }
     requires roots { All (λ n. n < length asked.now.files) asked.now.roots.items }
     requires prelude { IfSome asked.now.prelude (λ n. n < length asked.now.files) }
     requires loaders { (1 ≤ options.now.loaders) × (options.now.loaders ≤ 64) }
@@ -73,7 +75,7 @@ fn run_over<H: Threads + Wait + Sync>(
         AreOutcomes asked.now.files asked.now.prelude options.now.mode f.ends.items) }
     ensures readings { IfOk result (λ _. AreReadings asked.now.files staying.new.readings) }
     ensures seen { staying.new.readings.prelude ≡ staying.old.readings.prelude }
-    ensures dialect { staying.new.readings.dialect ≡ staying.old.readings.dialect }
+    ensures language { staying.new.readings.language ≡ staying.old.readings.language }
     ensures parses { staying.new.parses ≡ staying.old.parses }
     ensures outcomes { staying.new.outcomes ≡ staying.old.outcomes }
     ensures former { staying.new.former ≡ staying.old.former }
@@ -171,6 +173,34 @@ fn parse_first<H: Threads + Wait + Sync>(
     parsed
 }
 
+/// The options for the report of a run in this mode, with the further members that are wanted.
+fn options_of(
+    alloc: Global,
+    wanted: Wanted,
+    loaders: usize,
+    mode: &Mode,
+    seed: u64,
+) -> Result<Options, AllocError>
+    ensures loaders { IfOk result (λ o. o.loaders ≡ loaders) }
+    ensures mode { IfOk result (λ o. o.mode ≡ mode.now) }
+    ensures steps { IfOk result (λ o. o.mode.steps ≡ mode.now.steps) }
+    ensures language { IfOk result (λ o. o.mode.language ≡ mode.now.language) }
+    ensures output { IfOk result (λ o. o.output ≡ output.Report wanted) }
+{
+    Ok(Options {
+        roots: Vec::new(alloc),
+        prelude: None,
+        loaders,
+        mode: mode.share(alloc)?,
+        output: Output::Report(wanted),
+        trace: false,
+        dir: None,
+        explain: None,
+        progress: None,
+        seed,
+    })
+}
+
 /// The report that is asked for, made with the kept values that stay. The texts that are reached are parsed first,
 /// unless they have trees, and their trees are kept. A file whose reading stays is not read again.
 fn report_of<H: Threads + Wait + Sync>(
@@ -180,40 +210,29 @@ fn report_of<H: Threads + Wait + Sync>(
     staying: &mut Staying<'_>,
     wanted: Wanted,
     loaders: usize,
-    mode: Mode,
+    mode: &Mode,
 ) -> Result<Reported, ServeError>
     requires parses { AreKept asked.now.files staying.old.parses.all.items }
-    requires ends { AreEndsNow asked.now.files asked.now.prelude mode staying.old.outcomes.all.items }
+    requires ends { AreEndsNow asked.now.files asked.now.prelude mode.now staying.old.outcomes.all.items }
     requires readings { AreReadings asked.now.files staying.old.readings }
     requires seen { staying.old.readings.prelude ≡ asked.now.prelude }
-    requires dialect { staying.old.readings.dialect ≡ mode.dialect }
+    requires language { staying.old.readings.language ≡ mode.now.language }
     requires roots { All (λ n. n < length asked.now.files) asked.now.roots.items }
     requires prelude { IfSome asked.now.prelude (λ n. n < length asked.now.files) }
     requires loaders { (1 ≤ loaders) × (loaders ≤ 64) }
-    requires steps { (1 ≤ mode.steps) × (mode.steps ≤ 100000000) }
+    requires steps { (1 ≤ mode.now.steps) × (mode.now.steps ≤ 100000000) }
     ensures kinds { IfErr result (λ e. (e ≡ ServeError.Memory) ⊎ (e ≡ ServeError.Unpublished)) }
-    ensures report { IfOk result (λ r. IsReportText wanted (asked_view asked.now) mode r.text.items) }
-    ensures ends { IfOk result (λ r. AreOutcomes asked.now.files asked.now.prelude mode r.ends.items) }
+    ensures report { IfOk result (λ r. IsReportText wanted (asked_view asked.now) mode.now r.text.items) }
+    ensures ends { IfOk result (λ r. AreOutcomes asked.now.files asked.now.prelude mode.now r.ends.items) }
     ensures parses { IfOk result (λ _. AreKept asked.now.files staying.new.parses.all.items) }
     ensures readings { IfOk result (λ _. AreReadings asked.now.files staying.new.readings) }
     ensures seen { staying.new.readings.prelude ≡ staying.old.readings.prelude }
-    ensures dialect { staying.new.readings.dialect ≡ staying.old.readings.dialect }
+    ensures language { staying.new.readings.language ≡ staying.old.readings.language }
     ensures outcomes { staying.new.outcomes ≡ staying.old.outcomes }
     ensures former { staying.new.former ≡ staying.old.former }
     ensures same { staying.new.same ≡ staying.old.same }
 {
-    let options = Options {
-        roots: Vec::new(alloc),
-        prelude: None,
-        loaders,
-        mode,
-        output: Output::Report(wanted),
-        trace: false,
-        dir: None,
-        explain: None,
-        progress: None,
-        seed: staying.seed,
-    };
+    let options = options_of(alloc, wanted, loaders, mode, staying.seed)?;
     parse_first(rt, alloc, asked, staying, loaders)?;
     let arena = staying.arena;
     staying
@@ -243,24 +262,24 @@ fn run_changed<H: Threads + Wait + Sync>(
     changed: Vec<usize>,
     staying: &mut Staying<'_>,
     loaders: usize,
-    mode: Mode,
+    mode: &Mode,
 ) -> Result<Vec<Option<GoodEnd>>, ServeError>
     requires changed { All (λ n. n < length asked.old.files) changed.items }
     requires parses { AreKept asked.old.files staying.old.parses.all.items }
-    requires ends { AreEndsNow asked.old.files asked.old.prelude mode staying.old.outcomes.all.items }
+    requires ends { AreEndsNow asked.old.files asked.old.prelude mode.now staying.old.outcomes.all.items }
     requires readings { AreReadings asked.old.files staying.old.readings }
     requires seen { staying.old.readings.prelude ≡ asked.old.prelude }
-    requires dialect { staying.old.readings.dialect ≡ mode.dialect }
+    requires language { staying.old.readings.language ≡ mode.now.language }
     requires prelude { IfSome asked.old.prelude (λ n. n < length asked.old.files) }
     requires loaders { (1 ≤ loaders) × (loaders ≤ 64) }
-    requires steps { (1 ≤ mode.steps) × (mode.steps ≤ 100000000) }
+    requires steps { (1 ≤ mode.now.steps) × (mode.now.steps ≤ 100000000) }
     ensures asked { asked.new ≡ asked.old }
     ensures kinds { IfErr result (λ e. (e ≡ ServeError.Memory) ⊎ (e ≡ ServeError.Unpublished)) }
-    ensures ends { IfOk result (λ ends. AreOutcomes asked.old.files asked.old.prelude mode ends.items) }
+    ensures ends { IfOk result (λ ends. AreOutcomes asked.old.files asked.old.prelude mode.now ends.items) }
     ensures parses { IfOk result (λ _. AreKept asked.old.files staying.new.parses.all.items) }
     ensures readings { IfOk result (λ _. AreReadings asked.old.files staying.new.readings) }
     ensures seen { staying.new.readings.prelude ≡ staying.old.readings.prelude }
-    ensures dialect { staying.new.readings.dialect ≡ staying.old.readings.dialect }
+    ensures language { staying.new.readings.language ≡ staying.old.readings.language }
     ensures outcomes { staying.new.outcomes ≡ staying.old.outcomes }
     ensures former { staying.new.former ≡ staying.old.former }
     ensures same { staying.new.same ≡ staying.old.same }
@@ -299,29 +318,29 @@ fn keep_lasting<H: Threads + Wait + Sync>(
     asked: &mut AskedFor,
     staying: &mut Staying<'_>,
     limits: Limits,
-    mode: Mode,
+    mode: &Mode,
 ) -> Result<(), ServeError>
     requires prelude { IfSome asked.old.prelude (λ n. n < length asked.old.files) }
     requires loaders { (1 ≤ limits.loaders) × (limits.loaders ≤ 64) }
-    requires steps { (1 ≤ mode.steps) × (mode.steps ≤ 100000000) }
+    requires steps { (1 ≤ mode.now.steps) × (mode.now.steps ≤ 100000000) }
     requires parses { AreKept asked.old.files staying.old.parses.all.items }
-    requires outcomes { AreOutcomes asked.old.files asked.old.prelude mode staying.old.outcomes.all.items }
-    requires terms { staying.old.outcomes.terms ≡ record { prelude = asked.old.prelude; mode = mode } }
-    requires former { AreOutcomes before.now asked.old.prelude mode staying.old.former.items }
+    requires outcomes { AreOutcomes asked.old.files asked.old.prelude mode.now staying.old.outcomes.all.items }
+    requires terms { staying.old.outcomes.terms ≡ record { prelude = asked.old.prelude; mode = mode.now } }
+    requires former { AreOutcomes before.now asked.old.prelude mode.now staying.old.former.items }
     requires alike { 0 < length staying.old.former.items → AreAlike before.now asked.old.files asked.old.prelude }
     requires same { AreSame before.now asked.old.files staying.old.same.items }
     requires readings { AreReadings asked.old.files staying.old.readings }
     requires seen { staying.old.readings.prelude ≡ asked.old.prelude }
-    requires dialect { staying.old.readings.dialect ≡ mode.dialect }
+    requires language { staying.old.readings.language ≡ mode.now.language }
     ensures asked { asked.new ≡ asked.old }
     ensures kinds { IfErr result (λ e. (e ≡ ServeError.Memory) ⊎ (e ≡ ServeError.Unpublished)) }
     ensures ends { OnOk result
-        (AreEndsNow asked.old.files asked.old.prelude mode staying.new.outcomes.all.items) }
+        (AreEndsNow asked.old.files asked.old.prelude mode.now staying.new.outcomes.all.items) }
     ensures terms { staying.new.outcomes.terms ≡ staying.old.outcomes.terms }
     ensures parses { OnOk result (AreKept asked.old.files staying.new.parses.all.items) }
     ensures readings { OnOk result (AreReadings asked.old.files staying.new.readings) }
     ensures seen { staying.new.readings.prelude ≡ staying.old.readings.prelude }
-    ensures dialect { staying.new.readings.dialect ≡ staying.old.readings.dialect }
+    ensures language { staying.new.readings.language ≡ staying.old.readings.language }
 {
     let former = staying.former.as_slice();
     let compared = Compared::new(before, &asked.files, staying.same.as_slice());
@@ -412,11 +431,14 @@ fn report_after<'t, H: Threads + Wait + Sync>(
         Ok(asked) => asked,
         Err(error) => return Err(error),
     };
-    let (mode, wanted) = (question.mode, question.wanted);
+    if !are_recordable(question.mode.language.recorded.names()) {
+        return Err(ServeError::BadRecord);
+    }
+    let (mode, wanted) = (&question.mode, question.wanted);
     let Crew { loaders, ballast } = crew_for(&asked.files, limits, standing.kept.spent);
     let terms = Terms {
         prelude: asked.prelude,
-        mode,
+        mode: mode.share(alloc)?,
     };
     let mut staying = standing.staying(rt, alloc, &asked.files, terms, loaders, ballast)?;
     let limits = Limits { loaders, ..limits };
@@ -431,7 +453,8 @@ fn report_after<'t, H: Threads + Wait + Sync>(
         reached,
         ballasts,
     } = reported;
-    free_ends(rt, alloc, staying.outcomes.all, loaders);
+    let Outcomes { all, terms } = staying.outcomes;
+    free_ends(rt, alloc, all, loaders);
     Ok(After {
         files: asked.files,
         parses: staying.parses,

@@ -57,9 +57,15 @@ impl Question {
     pub fn is_same(&self, other: &Question) -> bool
         ensures { result ≡ true → question_of self.now ≡ question_of other.now }
     {
-        self.mode == other.mode
-            && self.wanted == other.wanted
-            && is_same_text(&self.prelude, &other.prelude)
-            && are_same(self.roots.as_slice(), other.roots.as_slice())
+        if !self.mode.is_same(&other.mode) {
+            return false;
+        }
+        if self.wanted != other.wanted {
+            return false;
+        }
+        if !is_same_text(&self.prelude, &other.prelude) {
+            return false;
+        }
+        are_same(self.roots.as_slice(), other.roots.as_slice())
     }
 }

@@ -13,7 +13,7 @@ ghost use Rattle.star_words.specs.Words.{label_of_path};
 use crate::question::Question;
 use serde_json::{Map, Value};
 use star_bundle::bundle::{into_members, json_in, normal_label};
-use star_dialect::{Dialect, Mode};
+use star_dialect::{Dialect, Language, Mode, Recorded};
 use star_label::label::Label;
 use star_report::wanted::Wanted;
 use star_words::words::label_of;
@@ -75,6 +75,10 @@ pub enum RequestError {
     BadSteps,
     /// `language` is not one of its words.
     BadLanguage,
+    /// `record` is not an array of texts.
+    BadNames,
+    /// There are names in `record`, and the language is the core.
+    NoRecord,
     /// `with` is not an array of its words.
     BadWith,
     /// A growth was refused.
@@ -99,6 +103,8 @@ impl RequestError {
             RequestError::BadPrelude => false,
             RequestError::BadSteps => false,
             RequestError::BadLanguage => false,
+            RequestError::BadNames => false,
+            RequestError::NoRecord => false,
             RequestError::BadWith => false,
         }
     }
@@ -123,6 +129,8 @@ impl RequestError {
             RequestError::BadPrelude => "`prelude` must be a label or null",
             RequestError::BadSteps => "`steps` must be a number from 1 to 100000000",
             RequestError::BadLanguage => "`language` must be core or extended",
+            RequestError::BadNames => "`record` must be an array of names",
+            RequestError::NoRecord => "`record` needs the extended language",
             RequestError::BadWith => {
                 "`with` must be an array of some of values, loads, steps, only-roots"
             }
@@ -362,6 +370,32 @@ fn language_in(value: &Value) -> Result<Dialect, RequestError>
     }
 }
 
+/// The names that items are, each once.
+fn names_in(alloc: Global, items: &[Value]) -> Result<Recorded, RequestError>
+    ensures ok { IfOk result (λ names. spec.names_in [] (items_view items.now) ≡ Ok names) }
+    ensures refused { IfErr result (λ e. IsWhy e (spec.names_in [] (items_view items.now))) }
+{
+    let mut recorded = Recorded::none(alloc);
+    for item in items {
+        let Some(name) = item.as_str() else {
+            return Err(RequestError::BadNames);
+        };
+        recorded.add(alloc, name)?;
+    }
+    Ok(recorded)
+}
+
+/// The names whose calls a request wants to be recorded.
+fn recorded_in(alloc: Global, value: &Value) -> Result<Recorded, RequestError>
+    ensures ok { IfOk result (λ names. spec.recorded_in (view value.now) ≡ Ok names) }
+    ensures refused { IfErr result (λ e. IsWhy e (spec.recorded_in (view value.now))) }
+{
+    match value.as_array() {
+        Some(items) => names_in(alloc, items.as_slice()),
+        None => Err(RequestError::BadNames),
+    }
+}
+
 /// The further members of each module that a request wants.
 fn wanted_in(value: &Value) -> Result<Wanted, RequestError>
     ensures ok { IfOk result (λ w. spec.wanted_in (view value.now) ≡ Ok w) }
@@ -400,7 +434,8 @@ fn take_member(
         }
         "prelude" => request.question.prelude = prelude_in(value)?,
         "steps" => request.question.mode.steps = steps_in(&value)?,
-        "language" => request.question.mode.dialect = language_in(&value)?,
+        "language" => request.question.mode.language.dialect = language_in(&value)?,
+        "record" => request.question.mode.language.recorded = recorded_in(alloc, &value)?,
         "with" => request.question.wanted = wanted_in(&value)?,
         _ => return Err(RequestError::NoMember { name }),
     }
@@ -419,7 +454,7 @@ fn plain(alloc: Global, roots: Vec<String>, defaults: &Defaults) -> Result<Reque
     let question = Question {
         roots,
         prelude,
-        mode: defaults.mode,
+        mode: defaults.mode.share(alloc)?,
         wanted: defaults.wanted,
     };
     Ok(Request {
@@ -451,6 +486,40 @@ fn with_members(
     Ok(request)
 }
 
+/// Whether there are names.
+fn has_names(recorded: &Recorded) -> bool
+    ensures { result ≡ spec.has_names recorded.now }
+{
+    match recorded.names() {
+        [_first, _rest @ ..] => true,
+        [] => false,
+    }
+}
+
+/// Whether calls are to be recorded in the core language, which has none.
+fn needs_extended(language: &Language) -> bool
+    ensures { result ≡ spec.needs_extended language.now.dialect language.now.recorded }
+{
+    match language.dialect {
+        Dialect::Core => has_names(&language.recorded),
+        Dialect::Extended => false,
+    }
+}
+
+/// A request that wants the calls of each module, if any are recorded. `NoRecord` if some are, in the core language.
+fn with_calls(request: Request) -> Result<Request, RequestError>
+    ensures ok { IfOk result (λ made. spec.with_calls (asked_by request) ≡ Ok (asked_by made)) }
+    ensures steps { IfOk result (λ made. made.question.mode.steps ≡ request.question.mode.steps) }
+    ensures refused { IfErr result (λ e. IsWhy e (spec.with_calls (asked_by request))) }
+{
+    let mut request = request;
+    if needs_extended(&request.question.mode.language) {
+        return Err(RequestError::NoRecord);
+    }
+    request.question.wanted.calls = has_names(&request.question.mode.language.recorded);
+    Ok(request)
+}
+
 /// The request that a value is. The error is about the first thing that is not as it must be.
 #[tactic(auto, unfolding(crate::specs::Requests::asking_in))]
 pub fn request_in(alloc: Global, value: Value, defaults: &Defaults) -> Result<Request, RequestError>
@@ -465,7 +534,10 @@ pub fn request_in(alloc: Global, value: Value, defaults: &Defaults) -> Result<Re
     let roots = roots_in(alloc, &value)?;
     let request = plain(alloc, roots, defaults)?;
     match into_members(value) {
-        Some(members) => with_members(alloc, defaults.origin, request, members),
+        Some(members) => {
+            let request = with_members(alloc, defaults.origin, request, members)?;
+            with_calls(request)
+        }
         None => Err(RequestError::NotObject),
     }
 }

@@ -1,6 +1,6 @@
 //! The files as the requests so far leave them, and the values that are kept for them.
 
-ghost use Rattle.std.specs.Prelude.{◌≡◌, ◌<◌, ◌≤◌, true, List, IfOk, IfSome, OnOk, length, map};
+ghost use Rattle.std.specs.Prelude.{◌≡◌, ◌<◌, ◌≤◌, [], true, List, IfOk, IfSome, OnOk, length, map};
 ghost use Rattle.star_label.specs.Files.{File};
 ghost use Rattle.star_memo.specs.Compared.{AreSame};
 ghost use Rattle.star_memo.specs.Lasting.{AreEndsNow};
@@ -17,7 +17,7 @@ use crate::changes::are_as;
 use crate::question::Question;
 use crate::request::Request;
 use crate::weight::{Limits, Spent, are_trees_large, ballast_for, texts_kept};
-use star_dialect::{Dialect, Mode};
+use star_dialect::{Dialect, Language, Mode};
 use star_label::files::Files;
 use star_memo::compared::{Compared, same_texts};
 use star_memo::lasting::Change;
@@ -114,21 +114,25 @@ pub(crate) struct Staying<'t> {
     pub parser: Option<Ballast>,
 }
 
+/// No outcomes.
+fn no_outcomes(alloc: Global) -> Outcomes
+    ensures { result.all.items ≡ [] }
+{
+    let terms = Terms {
+        prelude: None,
+        mode: Mode::core(alloc, 1),
+    };
+    Outcomes::new(alloc, terms)
+}
+
 impl KeptValues {
     /// Nothing is kept.
     pub(crate) fn new(alloc: Global, seed: u64) -> KeptValues
         ensures { (files : List File) → AreKeptFor files result }
     {
-        let terms = Terms {
-            prelude: None,
-            mode: Mode {
-                steps: 1,
-                dialect: Dialect::Core,
-            },
-        };
         KeptValues {
             parses: Parses::new(alloc),
-            outcomes: Outcomes::new(alloc, terms),
+            outcomes: no_outcomes(alloc),
             last: None,
             spent: Spent::UNKNOWN,
             ballast: None,
@@ -168,7 +172,7 @@ impl Staying<'_> {
         requires outcomes { let terms = self.old.outcomes.terms in
             AreOutcomes files.now terms.prelude terms.mode self.old.outcomes.all.items }
         requires reads { let terms = self.old.outcomes.terms in
-            AreKnown files.now terms.prelude terms.mode.dialect self.old.readings.reads.all.items }
+            AreKnown files.now terms.prelude terms.mode.language self.old.readings.reads.all.items }
         requires same { AreSame before.now files.now self.old.same.items }
         ensures ends { let terms = self.old.outcomes.terms in OnOk result
             (AreEndsNow files.now terms.prelude terms.mode self.new.outcomes.all.items) }
@@ -182,7 +186,7 @@ impl Staying<'_> {
             former: self.former.as_slice(),
             ends: self.outcomes.all.as_slice(),
             reads: self.readings.reads.all.as_slice(),
-            terms: self.outcomes.terms,
+            terms: &self.outcomes.terms,
         };
         let marks = change.lasting(rt, alloc)?;
         self.outcomes.add_lasting(&mut self.former, &marks);
@@ -202,8 +206,9 @@ impl<'t> Standing<'t> {
         ensures files { result.files ≡ files }
         ensures standing { IsStanding result }
     {
-        let Terms { prelude, mode } = kept.outcomes.terms;
-        let readings = Readings::new(alloc, prelude, mode.dialect);
+        // None is there, so none stays under another language.
+        let none = Language::of(alloc, Dialect::Core);
+        let readings = Readings::new(alloc, kept.outcomes.terms.prelude, none);
         Standing {
             files,
             kept,
@@ -301,7 +306,7 @@ impl<'t> Standing<'t> {
         ensures alike { IfOk result (λ s.
             0 < length s.former.items → AreAlike self.old.files files.now terms.prelude) }
         ensures prelude { IfOk result (λ s. s.readings.prelude ≡ terms.prelude) }
-        ensures dialect { IfOk result (λ s. s.readings.dialect ≡ terms.mode.dialect) }
+        ensures language { IfOk result (λ s. s.readings.language ≡ terms.mode.language) }
         ensures readings { IfOk result (λ s. AreReadings files.now s.readings) }
         ensures same { IfOk result (λ s. AreSame self.old.files files.now s.same.items) }
     {
@@ -310,12 +315,14 @@ impl<'t> Standing<'t> {
         let parses = self.kept.parses.after(alloc, &compared)?;
         // The trees of texts that have changed go now, unless the arena shares them.
         self.kept.parses = Parses::new(alloc);
-        let before = mem::replace(&mut self.kept.outcomes, Outcomes::new(alloc, terms));
+        let language = terms.mode.language.share(alloc)?;
+        let none = Readings::new(alloc, terms.prelude, terms.mode.language.share(alloc)?);
+        let gone = Outcomes::new(alloc, terms.share(alloc)?);
+        let prelude = terms.prelude;
+        let before = mem::replace(&mut self.kept.outcomes, gone);
         let (outcomes, former) = before.after(rt, alloc, &compared, terms, threads)?;
-        let Terms { prelude, mode } = terms;
-        let none = Readings::new(alloc, prelude, mode.dialect);
         let before = mem::replace(&mut self.readings, none);
-        let readings = before.after(alloc, &compared, prelude, mode.dialect);
+        let readings = before.after(alloc, &compared, prelude, language);
         self.set_ballast(ballast);
         Ok(Staying {
             parses,
@@ -344,7 +351,7 @@ impl<'t> Standing<'t> {
         ensures standing { IfOk result IsStanding }
     {
         let mut before = self;
-        let terms = before.kept.outcomes.terms;
+        let terms = before.kept.outcomes.terms.share(alloc)?;
         let ballast = before.kept.ballast;
         let staying = before.staying(rt, alloc, &files, terms, threads, ballast)?;
         free_ends(rt, alloc, staying.former, threads);
@@ -388,8 +395,7 @@ impl<'t> Standing<'t> {
         let texts = texts_kept(&self.files, reached, keep);
         self.kept.parses.trim(alloc, &self.files, texts);
         if frugal {
-            let none = Outcomes::new(alloc, self.kept.outcomes.terms);
-            mem::replace(&mut self.kept.outcomes, none).free_apart(rt);
+            mem::replace(&mut self.kept.outcomes, no_outcomes(alloc)).free_apart(rt);
         }
     }
 

@@ -38,11 +38,11 @@ fn bytes_of(cell: &Cell) -> usize {
     items.saturating_add(CELL_BYTES)
 }
 
-/// The bytes of the texts of a file's globals, which a report has once more, and of the lines that it has printed.
+/// The bytes of the texts of a file's globals, which a report has once more, and of the lines and calls that it has said.
 fn shown_bytes(body: &Body) -> usize {
     let mut bytes = body.shown.json().len().saturating_mul(4);
     for line in &body.lines {
-        bytes = bytes.saturating_add(line.as_str().len());
+        bytes = bytes.saturating_add(line.len());
     }
     bytes.saturating_add(LARGE_BYTES)
 }

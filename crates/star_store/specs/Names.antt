@@ -1,5 +1,6 @@
 -- The names of the built-in functions and of the methods.
-use Rattle.std.specs.Prelude.{ℕ, Bool, true, false, List, codes}
+use Rattle.std.specs.Prelude.{ℕ, ◌+◌, Bool, true, false, List, [], codes, slice_get}
+use Rattle.std.specs.Option.{unwrap_or}
 use Rattle.star_store.specs.declared.names.BuiltIn.{BuiltIn}
 use Rattle.star_store.specs.declared.names.BuiltIn.TheVariants as built_in
 use Rattle.star_store.specs.declared.names.Method.{Method}
@@ -9,7 +10,7 @@ use Rattle.star_store.specs.declared.names.SetMethod.TheVariants as set_method
 use Rattle.star_strings.specs.Table as strings
 
 -- the place among the built-in functions: those of the core, those of the extended language, and the members of `json`,
--- each in order of their names
+-- each in order of their names, and then the recorded functions
 abbrev pub built_in_number : BuiltIn → ℕ
 built_in_number built_in.Abs = 0
 built_in_number built_in.All = 1
@@ -44,8 +45,9 @@ built_in_number built_in.Struct = 29
 built_in_number built_in.JsonDecode = 30
 built_in_number built_in.JsonEncode = 31
 built_in_number built_in.JsonEncodeIndent = 32
+built_in_number (built_in.Recorded i) = 33 + i
 
--- the name of a built-in function
+-- the name of a built-in function; a recorded one is known by its place among the recorded names
 abbrev pub built_in_name : BuiltIn → List ℕ
 built_in_name built_in.Abs = codes "abs"
 built_in_name built_in.All = codes "all"
@@ -80,6 +82,12 @@ built_in_name built_in.Struct = codes "struct"
 built_in_name built_in.JsonDecode = codes "json.decode"
 built_in_name built_in.JsonEncode = codes "json.encode"
 built_in_name built_in.JsonEncodeIndent = codes "json.encode_indent"
+built_in_name (built_in.Recorded i) = []
+
+-- the name of any of them, given the recorded names
+abbrev pub name_among : List (List ℕ) → BuiltIn → List ℕ
+name_among names (built_in.Recorded i) = unwrap_or (slice_get names i) []
+name_among names b = built_in_name b
 
 -- `json` is a module; each other one is a function
 abbrev pub is_function : BuiltIn → Bool

@@ -16,7 +16,7 @@ use Rattle.star_store.specs.declared.names.BuiltIn.{BuiltIn}
 use Rattle.star_store.specs.declared.names.Method.{Method}
 use Rattle.star_store.specs.declared.fault.StoreFault.{StoreFault}
 use Rattle.star_store.specs.declared.fault.StoreFault.TheVariants.{Deep, Memory}
-use Rattle.star_store.specs.Names.{built_in_name, is_function, method_name, receiver_type}
+use Rattle.star_store.specs.Names.{is_function, method_name, name_among, receiver_type}
 use Rattle.star_store.specs.Spend.{Spend, Spent, Enough, Lacks, answer, spend_then, visited}
 
 -- a character as itself, or, below 32 and at 127, by its two lower-case hexadecimal digits
@@ -72,8 +72,9 @@ built_in_parts name = codes "<built-in function " ∷ name ∷ codes ">" ∷ []
 abbrev pub module_parts : List ℕ → List (List ℕ)
 module_parts name = codes "<module \"" ∷ name ∷ codes "\">" ∷ []
 
-abbrev pub parts_of_built_in : BuiltIn → List (List ℕ)
-parts_of_built_in b = if is_function b then built_in_parts (built_in_name b) else module_parts (built_in_name b)
+abbrev pub parts_of_built_in : List (List ℕ) → BuiltIn → List (List ℕ)
+parts_of_built_in names b =
+    if is_function b then built_in_parts (name_among names b) else module_parts (name_among names b)
 
 abbrev pub method_parts : Method → List (List ℕ)
 method_parts m = codes "<built-in method " ∷ method_name m ∷ codes " of " ∷ receiver_type m ∷ codes " value>" ∷ []
@@ -209,28 +210,29 @@ say_cell f path v (Some (cell.Struct fs)) = say_struct (f path) fs
 say_cell f path v (Some (cell.Set es)) = say_set (f path) es
 say_cell f path v None = say []
 
-abbrev pub say_value : (Value → Option Cell) → (List Value → Value → Say) → List Value → Value → Say
-say_value look f path value.NoneValue = say (codes "None")
-say_value look f path (value.Bool b) = say (bool_text b)
-say_value look f path (value.Int n) = say (signed_decimal n)
-say_value look f path (value.Builtin b) = say_parts (parts_of_built_in b)
-say_value look f path (value.Ref h a) = say_cell f path (value.Ref h a) (look (value.Ref h a))
+abbrev pub say_value : List (List ℕ) → (Value → Option Cell) → (List Value → Value → Say) → List Value → Value → Say
+say_value names look f path value.NoneValue = say (codes "None")
+say_value names look f path (value.Bool b) = say (bool_text b)
+say_value names look f path (value.Int n) = say (signed_decimal n)
+say_value names look f path (value.Builtin b) = say_parts (parts_of_built_in names b)
+say_value names look f path (value.Ref h a) = say_cell f path (value.Ref h a) (look (value.Ref h a))
 
--- the text of a value below a path, if this many levels may be opened: a value opens one, and then pays its visit
-unfoldable pub text : (Value → Option Cell) → ℕ → List Value → Value → Say
-text look zero path v = λ out n. Lacks Deep n
-text look (suc levels) path v = λ out. visited (say_value look (text look levels) path v out)
+-- the text of a value below a path, given the recorded names, if this many levels may be opened: a value opens one, and
+-- then pays its visit
+unfoldable pub text : List (List ℕ) → (Value → Option Cell) → ℕ → List Value → Value → Say
+text names look zero path v = λ out n. Lacks Deep n
+text names look (suc levels) path v = λ out. visited (say_value names look (text names look levels) path v out)
 
 -- a value, and a cell that it leads to, if this many levels may be opened in them
-abbrev pub say_within : (Value → Option Cell) → ℕ → List Value → Value → Say
-say_within look levels path v = say_value look (text look levels) path v
+abbrev pub say_within : List (List ℕ) → (Value → Option Cell) → ℕ → List Value → Value → Say
+say_within names look levels path v = say_value names look (text names look levels) path v
 
-abbrev pub say_read : (Value → Option Cell) → ℕ → List Value → Value → Option (Bor Cell) → Say
-say_read look levels path v c = say_cell (text look levels) path v (option_copied c)
+abbrev pub say_read : List (List ℕ) → (Value → Option Cell) → ℕ → List Value → Value → Option (Bor Cell) → Say
+say_read names look levels path v c = say_cell (text names look levels) path v (option_copied c)
 
 -- the text of what is inside of a value
-abbrev pub say_inside : (Value → Option Cell) → ℕ → List Value → Value → Value → Say
-say_inside look levels path v = text look levels (path ++ v ∷ [])
+abbrev pub say_inside : List (List ℕ) → (Value → Option Cell) → ℕ → List Value → Value → Value → Say
+say_inside names look levels path v = text names look levels (path ++ v ∷ [])
 
 -- A function's answer, the text that it left and the steps that it left are those of the definition, unless memory ran
 -- out.

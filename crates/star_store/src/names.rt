@@ -1,14 +1,15 @@
 //! `BuiltIn` and `Method`: all built-in functions and all methods, with their names and the methods' receivers.
 //!
-//! They are enums with names of their own, so `repr` needs no table. A method also has the type of its receiver:
+//! They are enums with names of their own, so `repr` needs no table but for the recorded functions. A method also has the type of its receiver:
 //! `list.clear` and `dict.clear` are two.
 
 ghost use Rattle.std.specs.Prelude.{◌≡◌};
-ghost use Rattle.star_store.specs.Names.{built_in_name, built_in_number, is_function, method_name, receiver_type, set_method_name};
+ghost use Rattle.star_store.specs.Names.{built_in_name, built_in_number, is_function, method_name, name_among, receiver_type, set_method_name};
 
 use star_strings::table::StringMethod;
+use star_text::Text;
 
-/// A built-in function of the outermost block, the module `json` there, or a member of it.
+/// A built-in function of the outermost block, the module `json` there, a member of it, or a recorded function.
 #[derive(Clone, Copy, Debug, PartialEq, Eq)]
 pub enum BuiltIn {
     Abs,
@@ -47,6 +48,8 @@ pub enum BuiltIn {
     JsonDecode,
     JsonEncode,
     JsonEncodeIndent,
+    /// A function whose calls are recorded, by the place of its name among the recorded names.
+    Recorded(u32),
 }
 
 /// A method, with the type of its receiver.
@@ -109,11 +112,46 @@ pub enum SetMethod {
 
 impl BuiltIn {
     /// The place among the built-in functions: those of the core come first, those of the extended language next, then
-    /// the members of `json`, each in order of their names.
-    pub fn number(self) -> u8
+    /// the members of `json`, each in order of their names, and then the recorded functions.
+    pub fn number(self) -> u64
         ensures { result ≡ built_in_number self }
     {
-        self as u8
+        match self {
+            BuiltIn::Abs => 0,
+            BuiltIn::All => 1,
+            BuiltIn::Any => 2,
+            BuiltIn::Bool => 3,
+            BuiltIn::Dict => 4,
+            BuiltIn::Enumerate => 5,
+            BuiltIn::Fail => 6,
+            BuiltIn::Int => 7,
+            BuiltIn::Len => 8,
+            BuiltIn::List => 9,
+            BuiltIn::Max => 10,
+            BuiltIn::Min => 11,
+            BuiltIn::Print => 12,
+            BuiltIn::Range => 13,
+            BuiltIn::Repr => 14,
+            BuiltIn::Reversed => 15,
+            BuiltIn::Sorted => 16,
+            BuiltIn::Str => 17,
+            BuiltIn::Tuple => 18,
+            BuiltIn::Type => 19,
+            BuiltIn::Zip => 20,
+            BuiltIn::Chr => 21,
+            BuiltIn::Dir => 22,
+            BuiltIn::Getattr => 23,
+            BuiltIn::Hasattr => 24,
+            BuiltIn::Hash => 25,
+            BuiltIn::Json => 26,
+            BuiltIn::Ord => 27,
+            BuiltIn::Set => 28,
+            BuiltIn::Struct => 29,
+            BuiltIn::JsonDecode => 30,
+            BuiltIn::JsonEncode => 31,
+            BuiltIn::JsonEncodeIndent => 32,
+            BuiltIn::Recorded(place) => 33 + place as u64,
+        }
     }
 
     /// Whether it is a function: all but the module `json` are.
@@ -123,7 +161,7 @@ impl BuiltIn {
         !matches!(self, BuiltIn::Json)
     }
 
-    /// Its name: in the outermost block, or with that of its module before it.
+    /// Its name: in the outermost block, or with that of its module before it. Empty for a recorded function.
     pub fn name(self) -> &'static str
         ensures { result.now ≡ built_in_name self }
     {
@@ -161,6 +199,20 @@ impl BuiltIn {
             BuiltIn::JsonDecode => "json.decode",
             BuiltIn::JsonEncode => "json.encode",
             BuiltIn::JsonEncodeIndent => "json.encode_indent",
+            BuiltIn::Recorded(_) => "",
+        }
+    }
+
+    /// Its name, given the recorded names.
+    pub fn name_among(self, names: &[Text]) -> &str
+        ensures { result.now ≡ name_among names.now self }
+    {
+        match self {
+            BuiltIn::Recorded(place) => match names.get(place as usize) {
+                Some(name) => name.as_str(),
+                None => "",
+            },
+            own => own.name(),
         }
     }
 }

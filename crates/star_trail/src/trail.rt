@@ -1,6 +1,6 @@
 //! The trail for a person.
 
-ghost use Rattle.std.specs.Prelude.{◌≡◌, All, MatchOption, Some, None, true};
+ghost use Rattle.std.specs.Prelude.{◌≡◌, ◌⊎◌, [], All, MatchOption, Some, None, true};
 ghost use Rattle.star_trail.specs.Trails.{IsStep, statements_in};
 
 use crate::statements::begins_at;
@@ -47,7 +47,8 @@ fn are_there(reads: &Reads, steps: &[Step]) -> bool
 /// The steps that a fault has left, for a person: all of them if each statement among them is a statement of the file
 /// that it names, else none. Tests show that a run leaves no others.
 pub fn steps_there<'s>(reads: &Reads, steps: &'s [Step]) -> &'s [Step]
-    ensures { All (IsStep reads.now.all.items) result.now }
+    ensures there { All (IsStep reads.now.all.items) result.now }
+    ensures whole { (result.now ≡ steps.now) ⊎ (result.now ≡ []) }
 {
     if are_there(reads, steps) { steps } else { &[] }
 }

@@ -14,7 +14,8 @@ use Rattle.star_meaning.specs.declared.fault.FaultCode.{FaultCode}
 use Rattle.star_meaning.specs.declared.fault.FaultCode.TheVariants as code
 use Rattle.star_meaning.specs.declared.site.Flow.{Flow}
 use Rattle.star_meaning.specs.declared.site.Flow.TheVariants as flow
-use Rattle.star_meaning.specs.Run.{State, Outcome, Done, Failed, Action, and_then, ◌>>=◌, give, fail, pay, check, found, code_of, agreed, settled, visiting, seeing, storing, make, build, each, all_of, collect, until, add_line}
+use Rattle.star_meaning.specs.declared.said.Said.{Said}
+use Rattle.star_meaning.specs.Run.{State, Outcome, Done, Failed, Action, and_then, ◌>>=◌, give, fail, pay, check, found, code_of, agreed, settled, visiting, seeing, storing, make, build, each, all_of, collect, until, add_said}
 use Rattle.star_meaning.specs.Program.{Setting}
 use Rattle.star_meaning.specs.Values.{Content, content, with_content, leave}
 use Rattle.star_meaning.specs.Semantics.{block, then_go, then_turn, turns, repeat}
@@ -173,9 +174,9 @@ bound_visible hides slot v (cell.Struct fs) h c = c
 pub alike_bound : {w : Setting} {k : Veil w} (frame : Value) (slot : ℕ) (v : Value) → IsVisible k.hides v → Alike k Any (storing (bound frame slot v)) (storing (bound frame slot v))
 alike_bound {k = k} frame slot v h = alike_changing (λ e. record e { cell = bound_cell slot v e.cell }) (λ e c. bound_visible k.hides slot v e.cell h c) frame
 
-pub alike_add_line : {w : Setting} {k : Veil w} (bytes : List ℕ) → Alike k Any (add_line bytes) (add_line bytes)
-unfolding add_line
-alike_add_line bytes = record { holds = λ s c. (refl, (tt, record { home_is = c.home_is; cells = c.cells })) }
+pub alike_add_said : {w : Setting} {k : Veil w} (x : Said) → Alike k Any (add_said x) (add_said x)
+unfolding add_said
+alike_add_said x = record { holds = λ s c. (refl, (tt, record { home_is = c.home_is; cells = c.cells })) }
 
 pub alike_activate : {w : Setting} {k : Veil w} (f : Function) → Alike k Any (activate f) (activate f)
 unfolding activate

@@ -11,12 +11,14 @@ use Rattle.star_store.specs.declared.names.BuiltIn.{BuiltIn}
 use Rattle.star_store.specs.declared.names.BuiltIn.TheVariants as built_in
 use Rattle.star_store.specs.Range.{range_length}
 use Rattle.star_meaning.specs.declared.fault.FaultCode.TheVariants as code
+use Rattle.star_meaning.specs.declared.said.Said.TheVariants.{Line}
 use Rattle.star_meaning.specs.declared.given.Arguments.{Arguments}
 use Rattle.star_meaning.specs.Run.{State, ◌>>=◌, check}
 use Rattle.star_meaning.specs.Arguments.{positional, only_one, none_or_one}
 use Rattle.star_meaning.specs.Program.{Setting}
 use Rattle.star_meaning.specs.Values.{Content, Truth, Number, Held, content, type_name, new_list}
-use Rattle.star_meaning.specs.BuiltIns.{absolute, call_abs, is_decided, some_item, call_all, call_any, truth_of, call_bool, call_dict, want_start, numbered, call_enumerate, want_separator, joined, print_line, call_print, call_fail, to_int, int_alone, one_base, int_by, int_with_base, int_of_dialect, call_int, length_in, call_len, taken_from, call_list, call_tuple, call_reversed, best_of, best_in, candidates, call_best, new_range, range_of, is_range_count, call_range, call_repr, call_str, call_type, turned, sort, sort_items, call_sorted, least, row_at, call_zip, call_built_in}
+use Rattle.star_meaning.specs.BuiltIns.{absolute, call_abs, is_decided, some_item, call_all, call_any, truth_of, call_bool, call_dict, want_start, numbered, call_enumerate, want_separator, print_line, call_print, call_fail, to_int, int_alone, one_base, int_by, int_with_base, int_of_dialect, call_int, length_in, call_len, taken_from, call_list, call_tuple, call_reversed, best_of, best_in, candidates, call_best, new_range, range_of, is_range_count, call_range, call_repr, call_str, call_type, turned, sort, sort_items, call_sorted, least, row_at, call_zip, call_built_in}
+use Rattle.star_meaning.specs.Texts.{joined}
 use Rattle.star_meaning.specs.Spelling.{spelled}
 use Rattle.star_meaning.specs.Orders.{by_itself, can_sort, is_before}
 use Rattle.star_strings.specs.Ints.{base_of, int_in}
@@ -30,10 +32,10 @@ use Rattle.star_unseen.proofs.Orders.{alike-sort_by, alike-want_reverse, visible
 use Rattle.star_unseen.proofs.Rows.{every_append}
 use Rattle.star_unseen.proofs.Looks.{ContentIsVisible, same_content}
 use Rattle.star_unseen.proofs.Visible.{ArgumentsAreVisible}
-use Rattle.star_unseen.proofs.Alike.{Alike, Any, alike_add_line, alike_build, alike_check, alike_collect, alike_content, alike_each, alike_fail, alike_found, alike_give, alike_pay, alike_seeing, alike_then, alike_until}
+use Rattle.star_unseen.proofs.Alike.{Alike, Any, alike_add_said, alike_build, alike_check, alike_collect, alike_content, alike_each, alike_fail, alike_found, alike_give, alike_pay, alike_seeing, alike_then, alike_until}
 use Rattle.star_unseen.proofs.Values.{any_found, alike-want_int, alike-want_text, alike-new_int, alike-new_text, alike-new_tuple, alike-new_list, alike-count_of, alike-take_item, alike-take_items, alike-take_all, alike-is_true, alike-compare, alike-repr, alike-str}
 use Rattle.star_unseen.proofs.Arguments.{alike-positional, alike-with_name, alike-only_one, alike-none_or_one, alike-one_or_two}
-use Rattle.star_unseen.proofs.Attributes.{alike-call_chr, alike-call_dir, alike-call_getattr, alike-call_hasattr, alike-call_hash, alike-call_ord, alike-call_struct}
+use Rattle.star_unseen.proofs.Attributes.{alike-call_chr, alike-call_dir, alike-call_getattr, alike-call_hasattr, alike-call_hash, alike-call_ord, alike-call_recorded, alike-call_struct}
 use Rattle.star_unseen.proofs.Json.{alike-call_decode, alike-call_encode, alike-call_encode_indent}
 use Rattle.star_unseen.proofs.Pairs.{alike-pairs_count, alike-pairs_of, alike-dict_of}
 
@@ -119,7 +121,7 @@ pub alike-print_line : {w : Setting} (k : Veil w) (levels line : ℕ) (g : Argum
 alike-print_line k levels line g h =
     alike_then (alike-with_name k line (codes "sep") g h) (λ a l. alike_then (alike-want_separator k line a.1 l.1) (λ by _.
     alike_then (alike_each {B = List ℕ} (IsVisible k.hides) Any _ _ a.0 l.0 (λ x r. alike-str k levels line x r)) (λ ts _.
-    alike_then (alike_pay line (1 + length (joined by ts))) (λ _ _. alike_add_line (joined by ts)))))
+    alike_then (alike_pay line (1 + length (joined by ts))) (λ _ _. alike_add_said (Line (joined by ts))))))
 
 pub alike-call_print : {w : Setting} (k : Veil w) (levels line : ℕ) (g : Arguments) → ArgumentsAreVisible k.hides g → Alike k (IsVisible k.hides) (call_print w levels line g) (call_print (with_other k.other w) levels line g)
 alike-call_print k levels line g h = alike_then (alike-print_line k levels line g h) (λ _ _. alike_give (IsVisible k.hides) value.NoneValue tt)
@@ -158,7 +160,7 @@ alike-int_of_dialect k line g dialect.Core h = alike-int_alone k line g h
 alike-int_of_dialect k line g dialect.Extended h = alike-int_with_base k line g h
 
 pub alike-call_int : {w : Setting} (k : Veil w) (line : ℕ) (g : Arguments) → ArgumentsAreVisible k.hides g → Alike k (IsVisible k.hides) (call_int w line g) (call_int (with_other k.other w) line g)
-alike-call_int {w = w} k line g h = alike-int_of_dialect k line g w.dialect h
+alike-call_int {w = w} k line g h = alike-int_of_dialect k line g w.language.dialect h
 
 pub alike-call_len : {w : Setting} (k : Veil w) (line : ℕ) (g : Arguments) → ArgumentsAreVisible k.hides g → Alike k (IsVisible k.hides) (call_len w line g) (call_len (with_other k.other w) line g)
 alike-call_len k line g h =
@@ -268,7 +270,7 @@ pub alike-call_sorted : {w : Setting} (k : Veil w) (levels line : ℕ) (g : Argu
 alike-call_sorted {w = w} k levels line g h =
     alike_then (alike-with_name k line (codes "reverse") g h) (λ a l. alike_then (alike-only_one k line a.0 l.0) (λ it r.
     alike_then (alike-count_of k line it r) (λ n _. alike_then (alike-want_reverse k line a.1 l.1) (λ backwards _.
-    alike_then (alike-take_items k line it n r) (λ xs q. alike-sort_items k levels line backwards xs w.dialect q)))))
+    alike_then (alike-take_items k line it n r) (λ xs q. alike-sort_items k levels line backwards xs w.language.dialect q)))))
 
 -- ---- zip
 
@@ -318,3 +320,4 @@ alike-call_built_in k levels line built_in.Struct g h = alike-call_struct k line
 alike-call_built_in k levels line built_in.JsonDecode g h = alike-call_decode k levels line g h
 alike-call_built_in k levels line built_in.JsonEncode g h = alike-call_encode k levels line g h
 alike-call_built_in k levels line built_in.JsonEncodeIndent g h = alike-call_encode_indent k levels line g h
+alike-call_built_in k levels line (built_in.Recorded i) g h = alike-call_recorded k levels line i g h

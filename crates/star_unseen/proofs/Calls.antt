@@ -115,7 +115,7 @@ alike-called_built_in k levels m n p x g false b c h = alike-call_built_in k lev
 pub alike-called : {w : Setting} (k : Veil w) (levels : ℕ) (m n : Semantics) (p : Site) (x : Callee) (g : Arguments) → AllAlike k m n → SiteIsVisible k.hides p → CalleeIsVisible k.hides x → ArgumentsAreVisible k.hides g
     → Alike k (IsVisible k.hides) (called w levels m p x g) (called (with_other k.other w) levels n p x g)
 alike-called k levels m n p (AFunction f d) g b c h i = alike-called_plainly k levels m n p (AFunction f d) g b c h i
-alike-called {w = w} k levels m n p (ABuiltIn x) g b c h i = alike-called_built_in k levels m n p x g (takes_key w.dialect g) b c i
+alike-called {w = w} k levels m n p (ABuiltIn x) g b c h i = alike-called_built_in k levels m n p x g (takes_key w.language.dialect g) b c i
 alike-called k levels m n p (AMethod x v) g b c h i = alike-called_plainly k levels m n p (AMethod x v) g b c h i
 
 pub alike-call_node : {w : Setting} (k : Veil w) (levels : ℕ) (m n : Semantics) (p : Site) (f : Expression) (es : List Argument) → AllAlike k m n → SiteIsVisible k.hides p

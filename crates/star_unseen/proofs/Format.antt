@@ -60,7 +60,7 @@ alike-converted k levels line g c n h =
     alike_then (alike-field_value k line g c.0 n h) (λ r l. alike_then (alike-text_by k levels line c.1 r.0 l) (λ t _. alike_give {A = List ℕ × Numbering} Any (t, r.1) tt))
 
 pub alike-field_text : {w : Setting} (k : Veil w) (levels line : ℕ) (g : Arguments) (f : List ℕ) (n : Numbering) → ArgumentsAreVisible k.hides g → Alike k Any (field_text w levels line g f n) (field_text (with_other k.other w) levels line g f n)
-alike-field_text {w = w} k levels line g f n h = alike-converted k levels line g (conversion w.dialect f) n h
+alike-field_text {w = w} k levels line g f n h = alike-converted k levels line g (conversion w.language.dialect f) n h
 
 pub alike-formatted : {w : Setting} (k : Veil w) (levels line : ℕ) (g : Arguments) (t : List ℕ) (r : Reading) (n : Numbering) (out : List ℕ) → ArgumentsAreVisible k.hides g → Alike k Any (formatted w levels line g t r n out) (formatted (with_other k.other w) levels line g t r n out)
 alike-formatted k levels line g [] Outside n out h = alike_give {A = List ℕ} Any out tt

@@ -92,7 +92,7 @@ alike-index_in k levels line l dialect.Extended (x ∷ a ∷ b ∷ []) h hx = al
 alike-index_in k levels line l _ _ h hx = alike_fail Value (IsVisible k.hides) code.Args line
 
 pub alike-call_index : {w : Setting} (k : Veil w) (levels line : ℕ) (l : Value) (g : Arguments) → IsVisible k.hides l → ArgumentsAreVisible k.hides g → Alike k (IsVisible k.hides) (call_index w levels line l g) (call_index (with_other k.other w) levels line l g)
-alike-call_index {w = w} k levels line l g h hg = alike_then (alike-positional k line g hg) (λ xs hx. alike-index_in k levels line l w.dialect xs h hx)
+alike-call_index {w = w} k levels line l g h hg = alike_then (alike-positional k line g hg) (λ xs hx. alike-index_in k levels line l w.language.dialect xs h hx)
 
 pub alike-call_insert : {w : Setting} (k : Veil w) (line : ℕ) (l : Value) (g : Arguments) → IsVisible k.hides l → ArgumentsAreVisible k.hides g → Alike k (IsVisible k.hides) (call_insert w line l g) (call_insert (with_other k.other w) line l g)
 alike-call_insert k line l g h hg = alike_then (alike_then (alike-positional k line g hg) (λ xs hx. alike-two k line xs hx)) (λ a ha.

@@ -54,7 +54,7 @@ alike-format_letter {w = w} k levels line letter x h =
     alike_if Any (nat_eq letter 115) _ _ _ _ (alike-str k levels line x h)
     (alike_if Any (nat_eq letter 114) _ _ _ _ (alike-repr k levels line x h)
     (alike_if Any (nat_eq letter 100) _ _ _ _ (alike_then (alike-want_int k line x h) (λ n _. alike-repr k levels line x h))
-    (alike-letter_in k w.dialect levels line letter x h)))
+    (alike-letter_in k w.language.dialect levels line letter x h)))
 
 -- a text with values that are left
 abbrev pub WithRest : Hides → List ℕ × List Value → Type 0
@@ -83,7 +83,7 @@ alike-filled k levels line y Between (b ∷ bs) xs out l h =
     alike_if Any (nat_eq b 37) _ _ _ _ (alike-filled k levels line y Format bs xs out l h) (alike-filled k levels line y Between bs xs (out ++ b ∷ []) l h)
 alike-filled {w = w} k levels line y Format (b ∷ bs) xs out l h =
     alike_if Any (nat_eq b 37) _ _ _ _ (alike-filled k levels line y Between bs xs (out ++ b ∷ []) l h)
-    (alike_if Any (opens w.dialect b) _ _ _ _ (alike-filled k levels line y (Name []) bs xs out l h)
+    (alike_if Any (opens w.language.dialect b) _ _ _ _ (alike-filled k levels line y (Name []) bs xs out l h)
     (alike_then (alike-next_text k levels line b xs h) (λ r q. alike-filled k levels line y Between bs r.1 (out ++ r.0) l q)))
 alike-filled k levels line y (Name n) (b ∷ bs) xs out l h =
     alike_if Any (nat_eq b 41) _ _ _ _ (alike-filled k levels line y (Named n) bs xs out l h) (alike-filled k levels line y (Name (n ++ b ∷ [])) bs xs out l h)

@@ -118,7 +118,7 @@ alike-sliced k line _ r h = alike_fail Value (IsVisible k.hides) code.BadType li
 
 pub alike-slice : {w : Setting} (k : Veil w) (line : ℕ) (x : Value) (a b c : Option Value) → IsVisible k.hides x → VisibleIfThere k.hides a → VisibleIfThere k.hides b → VisibleIfThere k.hides c → Alike k (IsVisible k.hides) (slice w line x a b c) (slice (with_other k.other w) line x a b c)
 unfolding slice
-alike-slice {w = w} k line x a b c hx ha hb hc = alike_then (alike_content Any x _ _ hx (λ d hd. alike_check code.BadType line (has_slices w.dialect d))) (λ _ _.
+alike-slice {w = w} k line x a b c hx ha hb hc = alike_then (alike_content Any x _ _ hx (λ d hd. alike_check code.BadType line (has_slices w.language.dialect d))) (λ _ _.
     alike_then (alike-want_part k line a ha) (λ start _. alike_then (alike-want_part k line b hb) (λ stop _. alike_then (alike-want_part k line c hc) (λ stride _.
     alike_then (alike_check code.BadValue line (not (int_eq (stride_of stride) (pos 0)))) (λ _ _.
     alike_content (IsVisible k.hides) x _ _ hx (λ d hd. alike-sliced k line d (λ n. slice_range n start stop (stride_of stride)) hd))))))

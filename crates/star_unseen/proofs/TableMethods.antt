@@ -75,4 +75,4 @@ alike-in_dialect k dialect.Extended m n o p h j = j
 
 pub alike-call_wider : {w : Setting} (k : Veil w) (line : ℕ) (name t : List ℕ) (g : Arguments) (m o : Action Value) → ArgumentsAreVisible k.hides g → Alike k (IsVisible k.hides) m o → Alike k (IsVisible k.hides) (call_wider w line name t g m) (call_wider (with_other k.other w) line name t g o)
 alike-call_wider {w = w} k line name t g m o h j =
-    alike-in_dialect k w.dialect m _ o _ j (alike_then (alike_found {A = StringMethod} Any code.BadType line (named name) (any_found _)) (λ n _. alike-call_in_table k line n t g h))
+    alike-in_dialect k w.language.dialect m _ o _ j (alike_then (alike_found {A = StringMethod} Any code.BadType line (named name) (any_found _)) (λ n _. alike-call_in_table k line n t g h))

@@ -11,8 +11,7 @@ use Rattle.star_meaning.specs.Run.{State}
 use Rattle.star_meaning.specs.Program.{Setting}
 use Rattle.star_meaning.specs.Values.{Content, Held, content, text_of}
 use Rattle.star_meaning.specs.Operators.{place_between}
-use Rattle.star_meaning.specs.BuiltIns.{joined}
-use Rattle.star_meaning.specs.Texts.{is_blank, is_in, parts}
+use Rattle.star_meaning.specs.Texts.{is_blank, is_in, parts, joined}
 use Rattle.star_meaning.specs.Format.{Outside, Unused}
 use Rattle.star_meaning.specs.TextMethods.{pay_for_bytes, texts_of, choices_in, want_choices, call_edge, Search, one_to_three, place_or_none, end_of, call_find, call_join, cuts_of, want_cuts, one_and_maybe, call_split, want_set, stripped, call_strip, call_case, Exchange, two_or_three, call_replace, call_format}
 use Rattle.star_unseen.specs.Veil.{AreVisible, Hides, IsVisible, VisibleIfThere}

@@ -100,7 +100,7 @@ alike-check_key k levels line x h = alike_visiting line _ _ (λ s c. same-check 
 
 pub alike-repr : {w : Setting} (k : Veil w) (levels line : ℕ) (v : Value) → IsVisible k.hides v → Alike k Any (repr w levels line v) (repr (with_other k.other w) levels line v)
 unfolding repr
-alike-repr k levels line v h = alike_visiting line _ _ (λ s c. ap (λ f. f []) (same-text k.hides _ _ (looks k s c) levels [] v h))
+alike-repr {w = w} k levels line v h = alike_visiting line _ _ (λ s c. ap (λ f. f []) (same-text k.hides _ _ (looks k s c) w.language.recorded levels [] v h))
 
 pub alike-encoded : {w : Setting} (k : Veil w) (levels line : ℕ) (l : Layout) (v : Value) → IsVisible k.hides v → Alike k Any (encoded w levels line l v) (encoded (with_other k.other w) levels line l v)
 unfolding encoded

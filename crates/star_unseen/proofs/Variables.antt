@@ -1,5 +1,5 @@
 -- Variables over both shelves: the same frames, and what is read from them is visible.
-use Rattle.std.proofs.Common.{◌≡◌, ℕ, zero, suc, List, [], ◌∷◌, length, replicate, map, Option, Some, None, Bool, true, false, not, ◌&&◌, nat_eq, if◌then◌else◌, slice_get, refl, ap, subst, ◌∙◌}
+use Rattle.std.proofs.Common.{◌≡◌, ℕ, zero, suc, ◌+◌, List, [], ◌∷◌, ◌++◌, length, replicate, map, Option, Some, None, Bool, true, false, not, ◌&&◌, nat_eq, if◌then◌else◌, slice_get, refl, ap, subst, ◌∙◌}
 use Rattle.std.specs.Cmp.Lexicographic.{pointwise}
 use Rattle.std.specs.List.{list_any}
 use Rattle.std.specs.Option.{option_and_then}
@@ -9,7 +9,7 @@ use Rattle.star_store.specs.declared.values.Cell.TheVariants as cell
 use Rattle.star_store.specs.declared.values.Frame.{Frame}
 use Rattle.star_store.specs.declared.values.Value.{Value}
 use Rattle.star_store.specs.declared.values.Value.TheVariants as value
-use Rattle.star_dialect.specs.declared.Dialect.{Dialect}
+use Rattle.star_dialect.specs.declared.Language.{Language}
 use Rattle.star_store.specs.Names.{built_in_name}
 use Rattle.star_store.specs.Store.{global_of}
 use Rattle.star_tree.specs.declared.tree.Name.{Name}
@@ -21,7 +21,7 @@ use Rattle.star_meaning.specs.declared.fault.FaultCode.TheVariants as code
 use Rattle.star_meaning.specs.declared.site.Site.{Site}
 use Rattle.star_meaning.specs.Run.{State, found, make}
 use Rattle.star_meaning.specs.Program.{Setting, blocks_in, names_of, published_of, seen}
-use Rattle.star_meaning.specs.Variables.{bind_at, bind_name, built_ins, else_in, frame_of, in_frame, keyword_slot, nearest, new_frame, outermost, outside, outside_prelude, prelude_has, read_found, read_name}
+use Rattle.star_meaning.specs.Variables.{bind_at, bind_name, built_ins, else_in, frame_of, in_frame, keyword_slot, nearest, new_frame, outermost, outside, outside_prelude, own_values, recorded_from, prelude_has, read_found, read_name}
 use Rattle.star_unseen.specs.Veil.{CellIsVisible, Every, FileIsVisible, Hides, IsVisible, Maybe, VisibleIfThere, StateIsVisible}
 use Rattle.star_unseen.specs.Shelves.{IsShared, Veil, with_other}
 use Rattle.star_unseen.proofs.Rows.{every_get, every_replicate, maybe_then}
@@ -131,23 +131,32 @@ every_built_in : {w : Setting} (k : Veil w) (bs : List BuiltIn) → GlobalsAreVi
 every_built_in k [] = tt
 every_built_in k (b ∷ bs) = (tt, every_built_in k bs)
 
-pub visible-outermost : {w : Setting} (k : Veil w) (d : Dialect) → GlobalsAreVisible k.hides (outermost d)
-visible-outermost k d = (tt, (tt, (tt, every_built_in k (built_ins d))))
+every_recorded : {w : Setting} (k : Veil w) (i : ℕ) (ns : List (List ℕ)) → GlobalsAreVisible k.hides (recorded_from i ns)
+every_recorded k i [] = tt
+every_recorded k i (n ∷ ns) = (tt, every_recorded k (i + 1) ns)
 
-pub alike-outside_prelude : {w : Setting} (k : Veil w) (d : Dialect) (line : ℕ) (name : List ℕ) → Alike k (IsVisible k.hides) (outside_prelude d line name) (outside_prelude d line name)
+both_visible : (hides : Hides) (gs hs : List (List ℕ × Value)) → GlobalsAreVisible hides gs → GlobalsAreVisible hides hs → GlobalsAreVisible hides (gs ++ hs)
+both_visible hides [] hs v w = w
+both_visible hides (g ∷ gs) hs v w = (v.0, both_visible hides gs hs v.1 w)
+
+pub visible-outermost : {w : Setting} (k : Veil w) (l : Language) → GlobalsAreVisible k.hides (outermost l)
+visible-outermost k l =
+    both_visible k.hides (own_values l.dialect) (recorded_from 0 l.recorded) (tt, (tt, (tt, every_built_in k (built_ins l.dialect)))) (every_recorded k 0 l.recorded)
+
+pub alike-outside_prelude : {w : Setting} (k : Veil w) (d : Language) (line : ℕ) (name : List ℕ) → Alike k (IsVisible k.hides) (outside_prelude d line name) (outside_prelude d line name)
 alike-outside_prelude k d line name = alike_found (IsVisible k.hides) code.Unbound line (global_of name (outermost d)) (visible-global_of k.hides name (outermost d) (visible-outermost k d))
 
 same_prelude : {w : Setting} (k : Veil w) (name : List ℕ) (file : ℕ) → FileIsVisible k.hides file → prelude_has w name file ≡ prelude_has (with_other k.other w) name file
 same_prelude k name file h = ap (λ names. not (is_private name) && list_any (same_name name) names) (same-names_of k file 0 h)
 
 pub alike-outside : {w : Setting} (k : Veil w) (prelude : Option ℕ) (file line : ℕ) (name : List ℕ) → Maybe (FileIsVisible k.hides) prelude → IsShared k prelude name → Alike k (IsVisible k.hides) (outside w prelude file line name) (outside (with_other k.other w) prelude file line name)
-alike-outside {w = w} k None file line name c h = alike-outside_prelude k w.dialect line name
+alike-outside {w = w} k None file line name c h = alike-outside_prelude k w.language line name
 alike-outside {w = w} k (Some prelude) file line name c h =
     subst (λ b. Alike k (IsVisible k.hides) (outside w (Some prelude) file line name)
-    (if not (nat_eq prelude file) && b then found code.Unbound line (option_and_then (λ p. global_of name p.globals) (published_of (with_other k.other w) prelude)) else outside_prelude w.dialect line name)) (same_prelude k name prelude c)
+    (if not (nat_eq prelude file) && b then found code.Unbound line (option_and_then (λ p. global_of name p.globals) (published_of (with_other k.other w) prelude)) else outside_prelude w.language line name)) (same_prelude k name prelude c)
     (alike_if (IsVisible k.hides) (not (nat_eq prelude file) && prelude_has w name prelude) _ _ _ _
     (alike_finds (IsVisible k.hides) code.Unbound line _ _ h.0 h.1)
-    (alike-outside_prelude k w.dialect line name))
+    (alike-outside_prelude k w.language line name))
 
 -- ---- reading and binding
 

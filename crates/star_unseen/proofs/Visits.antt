@@ -275,14 +275,14 @@ cell_said hides f g h path v (Some (cell.Struct fs)) c = ap (λ (m : Say). then_
 cell_said hides f g h path v (Some (cell.Set es)) c = ap (λ (m : Say). then_say (say (codes "set([")) (then_say m (say (codes "])")))) (elements_said hides (f path) (g path) (h path) es c)
 cell_said hides f g h path v _ c = refl
 
-value_said : (hides : Hides) (look other : Value → Option Cell) → Looks hides look other → (f g : List Value → Value → Say) → SaysSame hides f g → (path : List Value) (v : Value) → IsVisible hides v → say_value look f path v ≡ say_value other g path v
-value_said hides look other l f g h path (value.Ref m a) c = cell_said hides f g h path (value.Ref m a) (look (value.Ref m a)) (l.visible (value.Ref m a) c) ∙ ap (say_cell g path (value.Ref m a)) (l.agree (value.Ref m a) c)
-value_said hides look other l f g h path _ c = refl
+value_said : (hides : Hides) (look other : Value → Option Cell) → Looks hides look other → (f g : List Value → Value → Say) → SaysSame hides f g → (path : List Value) (v : Value) → IsVisible hides v → (names : List (List ℕ)) → say_value names look f path v ≡ say_value names other g path v
+value_said hides look other l f g h path (value.Ref m a) c names = cell_said hides f g h path (value.Ref m a) (look (value.Ref m a)) (l.visible (value.Ref m a) c) ∙ ap (say_cell g path (value.Ref m a)) (l.agree (value.Ref m a) c)
+value_said hides look other l f g h path _ c names = refl
 
-pub same-text : (hides : Hides) (look other : Value → Option Cell) → Looks hides look other → (n : ℕ) → SaysSame hides (text look n) (text other n)
+pub same-text : (hides : Hides) (look other : Value → Option Cell) → Looks hides look other → (names : List (List ℕ)) (n : ℕ) → SaysSame hides (text names look n) (text names other n)
 unfolding text
-same-text hides look other l zero = λ path v c. refl
-same-text hides look other l (suc n) = λ path v c. ap {B = Say} (λ (m : Say) out. visited (m out)) (value_said hides look other l (text look n) (text other n) (same-text hides look other l n) path v c)
+same-text hides look other l names zero = λ path v c. refl
+same-text hides look other l names (suc n) = λ path v c. ap {B = Say} (λ (m : Say) out. visited (m out)) (value_said hides look other l (text names look n) (text names other n) (same-text hides look other l names n) path v c names)
 
 -- ---- JSON
 

@@ -6,14 +6,14 @@ use Rattle.star_store.specs.declared.fault.StoreFault.TheVariants.{Deep}
 use Rattle.star_store.specs.Spend.{Lacks, spend_then, visited}
 use Rattle.star_store.specs.Text.{Say, all_said, say_value, text}
 
-pub text_at_none : (look : Value → Option Cell) (path : List Value) (v : Value) (out : List ℕ) (n : ℕ) → text look 0 path v out n ≡ Lacks Deep n
+pub text_at_none : (names : List (List ℕ)) (look : Value → Option Cell) (path : List Value) (v : Value) (out : List ℕ) (n : ℕ) → text names look 0 path v out n ≡ Lacks Deep n
 unfolding text
-text_at_none look path v out n = refl
+text_at_none names look path v out n = refl
 
-pub text_at : (look : Value → Option Cell) (levels : ℕ) (path : List Value) (v : Value) (out : List ℕ) (n : ℕ) → 0 < levels → text look levels path v out n ≡ visited (say_value look (text look (levels - 1)) path v out) n
+pub text_at : (names : List (List ℕ)) (look : Value → Option Cell) (levels : ℕ) (path : List Value) (v : Value) (out : List ℕ) (n : ℕ) → 0 < levels → text names look levels path v out n ≡ visited (say_value names look (text names look (levels - 1)) path v out) n
 unfolding text
-text_at look zero path v out n h = absurd (omega arith)
-text_at look (suc levels) path v out n h = ap (λ k. visited (say_value look (text look k) path v out) n) (let e : levels ≡ suc levels - 1 = omega arith in e)
+text_at names look zero path v out n h = absurd (omega arith)
+text_at names look (suc levels) path v out n h = ap (λ k. visited (say_value names look (text names look k) path v out) n) (let e : levels ≡ suc levels - 1 = omega arith in e)
 
 all_said_more : (f : ℕ → Say) (n m i : ℕ) (out : List ℕ) (left : ℕ) → n ≡ m + 1 → all_said f n i out left ≡ spend_then (f i out left) (all_said f m (i + 1))
 all_said_more f zero m i out left h = absurd (omega arith)

@@ -36,11 +36,12 @@ pub fn repr(
     alloc: Global,
     arena: &Arena,
     homes: &Homes,
+    names: &[Text],
     budget: &mut Budget,
     value: Value,
     room: usize,
 ) -> Result<Draft, StoreFault>
-    ensures answer { Tells (text (look arena.now homes.now) budget.old.levels [] value [] budget.old.steps)
+    ensures answer { Tells (text names.now (look arena.now homes.now) budget.old.levels [] value [] budget.old.steps)
         result budget.new.steps }
     ensures less { budget.new.steps ≤ budget.old.steps }
     ensures levels { budget.new.levels ≡ budget.old.levels }
@@ -51,7 +52,7 @@ pub fn repr(
         path: Vec::new(alloc),
         steps: budget.steps,
     };
-    let answer = put_text(arena, homes, budget.levels, &mut page, value);
+    let answer = put_text(arena, homes, names, budget.levels, &mut page, value);
     budget.steps = page.steps;
     answer?;
     Ok(page.out)
@@ -62,11 +63,12 @@ pub fn repr(
 fn put_text<'a>(
     arena: &'a Arena,
     homes: &'a Homes<'a>,
+    names: &'a [Text],
     levels: u32,
     page: &mut Page,
     value: Value,
 ) -> Result<(), StoreFault>
-    ensures answer { Puts (text (look arena.now homes.now) levels page.old.path.items value) page.old result page.new }
+    ensures answer { Puts (text names.now (look arena.now homes.now) levels page.old.path.items value) page.old result page.new }
     ensures less { page.new.steps ≤ page.old.steps }
     ensures path { OnOk result (page.new.path.items ≡ page.old.path.items) }
 {
@@ -77,18 +79,19 @@ fn put_text<'a>(
         return Err(StoreFault::Steps);
     }
     page.steps -= 1;
-    put_value(arena, homes, levels - 1, page, value)
+    put_value(arena, homes, names, levels - 1, page, value)
 }
 
 #[cycle(text)]
 fn put_value<'a>(
     arena: &'a Arena,
     homes: &'a Homes<'a>,
+    names: &'a [Text],
     levels: u32,
     page: &mut Page,
     value: Value,
 ) -> Result<(), StoreFault>
-    ensures answer { Puts (say_within (look arena.now homes.now) levels page.old.path.items value) page.old result
+    ensures answer { Puts (say_within names.now (look arena.now homes.now) levels page.old.path.items value) page.old result
         page.new }
     ensures less { page.new.steps ≤ page.old.steps }
     ensures path { OnOk result (page.new.path.items ≡ page.old.path.items) }
@@ -97,9 +100,17 @@ fn put_value<'a>(
         Value::NoneValue => page.say("None")?,
         Value::Bool(b) => page.say_bool(b)?,
         Value::Int(n) => page.say_int(n)?,
-        Value::Builtin(b) => page.say_built_in(b)?,
+        Value::Builtin(b) => page.say_built_in(names, b)?,
         Value::Ref { .. } => {
-            put_cell(arena, homes, levels, page, value, arena.read(homes, value))?;
+            put_cell(
+                arena,
+                homes,
+                names,
+                levels,
+                page,
+                value,
+                arena.read(homes, value),
+            )?;
         }
     }
     Ok(())
@@ -109,12 +120,13 @@ fn put_value<'a>(
 fn put_cell<'a>(
     arena: &'a Arena,
     homes: &'a Homes<'a>,
+    names: &'a [Text],
     levels: u32,
     page: &mut Page,
     value: Value,
     cell: Option<&'a Cell>,
 ) -> Result<(), StoreFault>
-    ensures answer { Puts (say_read (look arena.now homes.now) levels page.old.path.items value cell.entry) page.old
+    ensures answer { Puts (say_read names.now (look arena.now homes.now) levels page.old.path.items value cell.entry) page.old
         result page.new }
     ensures less { page.new.steps ≤ page.old.steps }
     ensures path { OnOk result (page.new.path.items ≡ page.old.path.items) }
@@ -122,13 +134,13 @@ fn put_cell<'a>(
     match cell {
         Some(Cell::Text(t)) => page.say_quoted(t)?,
         Some(Cell::Range(range)) => page.say_range(*range)?,
-        Some(Cell::Tuple(items)) => put_tuple(arena, homes, levels, page, items)?,
-        Some(Cell::List(items)) => put_list(arena, homes, levels, page, value, items)?,
-        Some(Cell::Dict(entries)) => put_dict(arena, homes, levels, page, value, entries)?,
+        Some(Cell::Tuple(items)) => put_tuple(arena, homes, names, levels, page, items)?,
+        Some(Cell::List(items)) => put_list(arena, homes, names, levels, page, value, items)?,
+        Some(Cell::Dict(entries)) => put_dict(arena, homes, names, levels, page, value, entries)?,
         Some(Cell::Func(function)) => page.say_function(&function.get().name)?,
         Some(Cell::Bound(method, _)) => page.say_method(*method)?,
-        Some(Cell::Struct(fields)) => put_struct(arena, homes, levels, page, fields)?,
-        Some(Cell::Set(elements)) => put_set(arena, homes, levels, page, elements)?,
+        Some(Cell::Struct(fields)) => put_struct(arena, homes, names, levels, page, fields)?,
+        Some(Cell::Set(elements)) => put_set(arena, homes, names, levels, page, elements)?,
         Some(Cell::Frame(_)) | None => page.say("")?,
     }
     Ok(())
@@ -138,17 +150,18 @@ fn put_cell<'a>(
 fn put_tuple<'a>(
     arena: &'a Arena,
     homes: &'a Homes<'a>,
+    names: &'a [Text],
     levels: u32,
     page: &mut Page,
     items: &'a Values,
 ) -> Result<(), StoreFault>
-    ensures answer { Puts (say_tuple (text (look arena.now homes.now) levels page.old.path.items) items.now) page.old
+    ensures answer { Puts (say_tuple (text names.now (look arena.now homes.now) levels page.old.path.items) items.now) page.old
         result page.new }
     ensures less { page.new.steps ≤ page.old.steps }
     ensures path { OnOk result (page.new.path.items ≡ page.old.path.items) }
 {
     page.say("(")?;
-    put_items(arena, homes, levels, page, items)?;
+    put_items(arena, homes, names, levels, page, items)?;
     page.say_tuple_end(items)?;
     Ok(())
 }
@@ -157,17 +170,18 @@ fn put_tuple<'a>(
 fn put_struct<'a>(
     arena: &'a Arena,
     homes: &'a Homes<'a>,
+    names: &'a [Text],
     levels: u32,
     page: &mut Page,
     fields: &'a Boxed<Fields>,
 ) -> Result<(), StoreFault>
-    ensures answer { Puts (say_struct (text (look arena.now homes.now) levels page.old.path.items) fields.now) page.old
+    ensures answer { Puts (say_struct (text names.now (look arena.now homes.now) levels page.old.path.items) fields.now) page.old
         result page.new }
     ensures less { page.new.steps ≤ page.old.steps }
     ensures path { OnOk result (page.new.path.items ≡ page.old.path.items) }
 {
     page.say("struct(")?;
-    put_fields(arena, homes, levels, page, fields.get())?;
+    put_fields(arena, homes, names, levels, page, fields.get())?;
     page.say(")")?;
     Ok(())
 }
@@ -177,18 +191,19 @@ fn put_struct<'a>(
 fn put_fields<'a>(
     arena: &'a Arena,
     homes: &'a Homes<'a>,
+    names: &'a [Text],
     levels: u32,
     page: &mut Page,
     fields: &'a Fields,
 ) -> Result<(), StoreFault>
-    ensures answer { Puts (say_fields (text (look arena.now homes.now) levels page.old.path.items) fields.now) page.old
+    ensures answer { Puts (say_fields (text names.now (look arena.now homes.now) levels page.old.path.items) fields.now) page.old
         result page.new }
     ensures less { page.new.steps ≤ page.old.steps }
     ensures path { OnOk result (page.new.path.items ≡ page.old.path.items) }
 {
     let count = fields.len();
     for i in 0..count {
-        put_field(arena, homes, levels, page, fields, i)?;
+        put_field(arena, homes, names, levels, page, fields, i)?;
     }
     Ok(())
 }
@@ -197,12 +212,13 @@ fn put_fields<'a>(
 fn put_field<'a>(
     arena: &'a Arena,
     homes: &'a Homes<'a>,
+    names: &'a [Text],
     levels: u32,
     page: &mut Page,
     fields: &'a Fields,
     i: usize,
 ) -> Result<(), StoreFault>
-    ensures answer { Puts (say_field (text (look arena.now homes.now) levels page.old.path.items) fields.now i) page.old
+    ensures answer { Puts (say_field (text names.now (look arena.now homes.now) levels page.old.path.items) fields.now i) page.old
         result page.new }
     ensures less { page.new.steps ≤ page.old.steps }
     ensures path { OnOk result (page.new.path.items ≡ page.old.path.items) }
@@ -211,7 +227,7 @@ fn put_field<'a>(
     match fields.at(i) {
         Some((name, value)) => {
             page.say_name(name)?;
-            put_text(arena, homes, levels, page, value)?;
+            put_text(arena, homes, names, levels, page, value)?;
         }
         None => page.say("")?,
     }
@@ -222,17 +238,18 @@ fn put_field<'a>(
 fn put_set<'a>(
     arena: &'a Arena,
     homes: &'a Homes<'a>,
+    names: &'a [Text],
     levels: u32,
     page: &mut Page,
     elements: &'a Entries,
 ) -> Result<(), StoreFault>
-    ensures answer { Puts (say_set (text (look arena.now homes.now) levels page.old.path.items) elements.now) page.old
+    ensures answer { Puts (say_set (text names.now (look arena.now homes.now) levels page.old.path.items) elements.now) page.old
         result page.new }
     ensures less { page.new.steps ≤ page.old.steps }
     ensures path { OnOk result (page.new.path.items ≡ page.old.path.items) }
 {
     page.say("set([")?;
-    put_elements(arena, homes, levels, page, elements)?;
+    put_elements(arena, homes, names, levels, page, elements)?;
     page.say("])")?;
     Ok(())
 }
@@ -242,18 +259,19 @@ fn put_set<'a>(
 fn put_elements<'a>(
     arena: &'a Arena,
     homes: &'a Homes<'a>,
+    names: &'a [Text],
     levels: u32,
     page: &mut Page,
     elements: &'a Entries,
 ) -> Result<(), StoreFault>
-    ensures answer { Puts (say_elements (text (look arena.now homes.now) levels page.old.path.items) elements.now)
+    ensures answer { Puts (say_elements (text names.now (look arena.now homes.now) levels page.old.path.items) elements.now)
         page.old result page.new }
     ensures less { page.new.steps ≤ page.old.steps }
     ensures path { OnOk result (page.new.path.items ≡ page.old.path.items) }
 {
     let count = elements.len();
     for i in 0..count {
-        put_nth(arena, homes, levels, page, elements, i)?;
+        put_nth(arena, homes, names, levels, page, elements, i)?;
     }
     Ok(())
 }
@@ -262,19 +280,20 @@ fn put_elements<'a>(
 fn put_nth<'a>(
     arena: &'a Arena,
     homes: &'a Homes<'a>,
+    names: &'a [Text],
     levels: u32,
     page: &mut Page,
     elements: &'a Entries,
     i: usize,
 ) -> Result<(), StoreFault>
-    ensures answer { Puts (say_nth (text (look arena.now homes.now) levels page.old.path.items) elements.now i) page.old
+    ensures answer { Puts (say_nth (text names.now (look arena.now homes.now) levels page.old.path.items) elements.now i) page.old
         result page.new }
     ensures less { page.new.steps ≤ page.old.steps }
     ensures path { OnOk result (page.new.path.items ≡ page.old.path.items) }
 {
     page.say_separator(i)?;
     match elements.get(i) {
-        Some((element, _)) => put_text(arena, homes, levels, page, element)?,
+        Some((element, _)) => put_text(arena, homes, names, levels, page, element)?,
         None => page.say("")?,
     }
     Ok(())
@@ -284,12 +303,13 @@ fn put_nth<'a>(
 fn put_list<'a>(
     arena: &'a Arena,
     homes: &'a Homes<'a>,
+    names: &'a [Text],
     levels: u32,
     page: &mut Page,
     value: Value,
     items: &'a Values,
 ) -> Result<(), StoreFault>
-    ensures answer { Puts (say_list (text (look arena.now homes.now) levels) page.old.path.items value items.now)
+    ensures answer { Puts (say_list (text names.now (look arena.now homes.now) levels) page.old.path.items value items.now)
         page.old result page.new }
     ensures less { page.new.steps ≤ page.old.steps }
     ensures path { OnOk result (page.new.path.items ≡ page.old.path.items) }
@@ -298,25 +318,26 @@ fn put_list<'a>(
         page.say("[...]")?;
         return Ok(());
     }
-    put_new_list(arena, homes, levels, page, value, items)
+    put_new_list(arena, homes, names, levels, page, value, items)
 }
 
 #[cycle(text)]
 fn put_new_list<'a>(
     arena: &'a Arena,
     homes: &'a Homes<'a>,
+    names: &'a [Text],
     levels: u32,
     page: &mut Page,
     value: Value,
     items: &'a Values,
 ) -> Result<(), StoreFault>
-    ensures answer { Puts (say_new_list (say_inside (look arena.now homes.now) levels page.old.path.items value)
+    ensures answer { Puts (say_new_list (say_inside names.now (look arena.now homes.now) levels page.old.path.items value)
         items.now) page.old result page.new }
     ensures less { page.new.steps ≤ page.old.steps }
     ensures path { OnOk result (page.new.path.items ≡ page.old.path.items) }
 {
     page.say("[")?;
-    put_inner_items(arena, homes, levels, page, value, items)?;
+    put_inner_items(arena, homes, names, levels, page, value, items)?;
     page.say("]")?;
     Ok(())
 }
@@ -325,12 +346,13 @@ fn put_new_list<'a>(
 fn put_dict<'a>(
     arena: &'a Arena,
     homes: &'a Homes<'a>,
+    names: &'a [Text],
     levels: u32,
     page: &mut Page,
     value: Value,
     entries: &'a Entries,
 ) -> Result<(), StoreFault>
-    ensures answer { Puts (say_dict (text (look arena.now homes.now) levels) page.old.path.items value entries.now)
+    ensures answer { Puts (say_dict (text names.now (look arena.now homes.now) levels) page.old.path.items value entries.now)
         page.old result page.new }
     ensures less { page.new.steps ≤ page.old.steps }
     ensures path { OnOk result (page.new.path.items ≡ page.old.path.items) }
@@ -339,25 +361,26 @@ fn put_dict<'a>(
         page.say("{...}")?;
         return Ok(());
     }
-    put_new_dict(arena, homes, levels, page, value, entries)
+    put_new_dict(arena, homes, names, levels, page, value, entries)
 }
 
 #[cycle(text)]
 fn put_new_dict<'a>(
     arena: &'a Arena,
     homes: &'a Homes<'a>,
+    names: &'a [Text],
     levels: u32,
     page: &mut Page,
     value: Value,
     entries: &'a Entries,
 ) -> Result<(), StoreFault>
-    ensures answer { Puts (say_new_dict (say_inside (look arena.now homes.now) levels page.old.path.items value)
+    ensures answer { Puts (say_new_dict (say_inside names.now (look arena.now homes.now) levels page.old.path.items value)
         entries.now) page.old result page.new }
     ensures less { page.new.steps ≤ page.old.steps }
     ensures path { OnOk result (page.new.path.items ≡ page.old.path.items) }
 {
     page.say("{")?;
-    put_inner_entries(arena, homes, levels, page, value, entries)?;
+    put_inner_entries(arena, homes, names, levels, page, value, entries)?;
     page.say("}")?;
     Ok(())
 }
@@ -366,18 +389,19 @@ fn put_new_dict<'a>(
 fn put_inner_items<'a>(
     arena: &'a Arena,
     homes: &'a Homes<'a>,
+    names: &'a [Text],
     levels: u32,
     page: &mut Page,
     value: Value,
     items: &'a Values,
 ) -> Result<(), StoreFault>
-    ensures answer { Puts (say_items (say_inside (look arena.now homes.now) levels page.old.path.items value)
+    ensures answer { Puts (say_items (say_inside names.now (look arena.now homes.now) levels page.old.path.items value)
         items.now) page.old result page.new }
     ensures less { page.new.steps ≤ page.old.steps }
     ensures path { OnOk result (page.new.path.items ≡ page.old.path.items) }
 {
     page.enter(value)?;
-    put_items(arena, homes, levels, page, items)?;
+    put_items(arena, homes, names, levels, page, items)?;
     page.leave();
     Ok(())
 }
@@ -387,18 +411,19 @@ fn put_inner_items<'a>(
 fn put_items<'a>(
     arena: &'a Arena,
     homes: &'a Homes<'a>,
+    names: &'a [Text],
     levels: u32,
     page: &mut Page,
     items: &'a Values,
 ) -> Result<(), StoreFault>
-    ensures answer { Puts (say_items (text (look arena.now homes.now) levels page.old.path.items) items.now) page.old
+    ensures answer { Puts (say_items (text names.now (look arena.now homes.now) levels page.old.path.items) items.now) page.old
         result page.new }
     ensures less { page.new.steps ≤ page.old.steps }
     ensures path { OnOk result (page.new.path.items ≡ page.old.path.items) }
 {
     let count = items.len();
     for i in 0..count {
-        put_place(arena, homes, levels, page, items, i)?;
+        put_place(arena, homes, names, levels, page, items, i)?;
     }
     Ok(())
 }
@@ -407,19 +432,20 @@ fn put_items<'a>(
 fn put_place<'a>(
     arena: &'a Arena,
     homes: &'a Homes<'a>,
+    names: &'a [Text],
     levels: u32,
     page: &mut Page,
     items: &'a Values,
     i: usize,
 ) -> Result<(), StoreFault>
-    ensures answer { Puts (say_place (text (look arena.now homes.now) levels page.old.path.items) items.now i) page.old
+    ensures answer { Puts (say_place (text names.now (look arena.now homes.now) levels page.old.path.items) items.now i) page.old
         result page.new }
     ensures less { page.new.steps ≤ page.old.steps }
     ensures path { OnOk result (page.new.path.items ≡ page.old.path.items) }
 {
     page.say_separator(i)?;
     match items.get(i) {
-        Some(item) => put_text(arena, homes, levels, page, item)?,
+        Some(item) => put_text(arena, homes, names, levels, page, item)?,
         None => page.say("")?,
     }
     Ok(())
@@ -429,18 +455,19 @@ fn put_place<'a>(
 fn put_inner_entries<'a>(
     arena: &'a Arena,
     homes: &'a Homes<'a>,
+    names: &'a [Text],
     levels: u32,
     page: &mut Page,
     value: Value,
     entries: &'a Entries,
 ) -> Result<(), StoreFault>
-    ensures answer { Puts (say_entries (say_inside (look arena.now homes.now) levels page.old.path.items value)
+    ensures answer { Puts (say_entries (say_inside names.now (look arena.now homes.now) levels page.old.path.items value)
         entries.now) page.old result page.new }
     ensures less { page.new.steps ≤ page.old.steps }
     ensures path { OnOk result (page.new.path.items ≡ page.old.path.items) }
 {
     page.enter(value)?;
-    put_entries(arena, homes, levels, page, entries)?;
+    put_entries(arena, homes, names, levels, page, entries)?;
     page.leave();
     Ok(())
 }
@@ -450,18 +477,19 @@ fn put_inner_entries<'a>(
 fn put_entries<'a>(
     arena: &'a Arena,
     homes: &'a Homes<'a>,
+    names: &'a [Text],
     levels: u32,
     page: &mut Page,
     entries: &'a Entries,
 ) -> Result<(), StoreFault>
-    ensures answer { Puts (say_entries (text (look arena.now homes.now) levels page.old.path.items) entries.now)
+    ensures answer { Puts (say_entries (text names.now (look arena.now homes.now) levels page.old.path.items) entries.now)
         page.old result page.new }
     ensures less { page.new.steps ≤ page.old.steps }
     ensures path { OnOk result (page.new.path.items ≡ page.old.path.items) }
 {
     let count = entries.len();
     for i in 0..count {
-        put_entry(arena, homes, levels, page, entries, i)?;
+        put_entry(arena, homes, names, levels, page, entries, i)?;
     }
     Ok(())
 }
@@ -470,12 +498,13 @@ fn put_entries<'a>(
 fn put_entry<'a>(
     arena: &'a Arena,
     homes: &'a Homes<'a>,
+    names: &'a [Text],
     levels: u32,
     page: &mut Page,
     entries: &'a Entries,
     i: usize,
 ) -> Result<(), StoreFault>
-    ensures answer { Puts (say_entry (text (look arena.now homes.now) levels page.old.path.items) entries.now i)
+    ensures answer { Puts (say_entry (text names.now (look arena.now homes.now) levels page.old.path.items) entries.now i)
         page.old result page.new }
     ensures less { page.new.steps ≤ page.old.steps }
     ensures path { OnOk result (page.new.path.items ≡ page.old.path.items) }
@@ -483,9 +512,9 @@ fn put_entry<'a>(
     page.say_separator(i)?;
     match entries.get(i) {
         Some((key, value)) => {
-            put_text(arena, homes, levels, page, key)?;
+            put_text(arena, homes, names, levels, page, key)?;
             page.say(": ")?;
-            put_text(arena, homes, levels, page, value)?;
+            put_text(arena, homes, names, levels, page, value)?;
         }
         None => page.say("")?,
     }
@@ -533,19 +562,19 @@ impl Page {
         self.say(digits.as_str())
     }
 
-    fn say_built_in(&mut self, built_in: BuiltIn) -> Result<(), AllocError>
+    fn say_built_in(&mut self, names: &[Text], built_in: BuiltIn) -> Result<(), AllocError>
         ensures said { OnOk result (self.new.out
-            ≡ after self.old.out (parts_of_built_in built_in)) }
+            ≡ after self.old.out (parts_of_built_in names.now built_in)) }
         ensures path { self.new.path.items ≡ self.old.path.items }
         ensures steps { self.new.steps ≡ self.old.steps }
     {
         if built_in.is_function() {
             self.say("<built-in function ")?;
-            self.say(built_in.name())?;
+            self.say(built_in.name_among(names))?;
             return self.say(">");
         }
         self.say("<module \"")?;
-        self.say(built_in.name())?;
+        self.say(built_in.name_among(names))?;
         self.say("\">")
     }
 

@@ -1,6 +1,6 @@
 -- The environment of a run: its setting, and the programs of all files.
 use Rattle.std.specs.Prelude.{◌≡◌, ℕ, List, Option}
-use Rattle.star_dialect.specs.declared.Dialect.{Dialect}
+use Rattle.star_dialect.specs.declared.Language.{Language}
 use Rattle.star_scope.specs.declared.loads.Load.{Load}
 use Rattle.star_store.specs.Store.{Shelf}
 use Rattle.star_meaning.specs.Local.{outlines}
@@ -19,16 +19,16 @@ abbrev pub AreOutlined : Setting → Files → Type 0
 AreOutlined w files = w.outlines ≡ outlines (trees_of files)
 
 -- the environment of a file's run: the file, the stores that it reaches, the programs of all files, its own loads, the
--- prelude's file, and the dialect
-abbrev pub world_of : ℕ → Shelf → Files → List Load → Option ℕ → Dialect → World
-world_of home shelf files loads prelude dialect = record {
+-- prelude's file, and the language
+abbrev pub world_of : ℕ → Shelf → Files → List Load → Option ℕ → Language → World
+world_of home shelf files loads prelude language = record {
   setting = record {
     home = home;
     outlines = outlines (trees_of files);
     shelf = shelf;
     loads = load_files loads;
     prelude = prelude;
-    dialect = dialect;
+    language = language;
   };
   files = files;
 }

@@ -8,7 +8,7 @@ ghost use Rattle.star_scope.specs.Resolve.{Resolves, outside_seen};
 ghost use Rattle.star_meaning.specs.Programs.{IsOfFile, placed_file, trees_of};
 
 use crate::programs::Programs;
-use star_dialect::Dialect;
+use star_dialect::Language;
 use star_label::files::Files as Labels;
 use star_scope::error::ScopeFault;
 use star_scope::program::{Prelude, Program, resolve};
@@ -102,11 +102,11 @@ pub fn program_of<'t>(
     n: usize,
     tree: &'t Tree,
     prelude: Option<&Prelude<'t>>,
-    dialect: Dialect,
+    language: &Language,
 ) -> Result<Program<'t>, ScopeFault>
     requires { n < length labels.now }
-    ensures answer { Resolves labels.now n (outside_seen prelude.entry dialect) tree.now.statements result }
+    ensures answer { Resolves labels.now n (outside_seen prelude.entry language.entry) tree.now.statements result }
     ensures of_file { IfOk result (λ p. IsOfFile p) }
 {
-    resolve(alloc, labels, n, tree, prelude, dialect)
+    resolve(alloc, labels, n, tree, prelude, language)
 }

@@ -11,10 +11,10 @@ ghost use Rattle.star_meaning.specs.Program.{published_of, seen};
 ghost use Rattle.star_meaning.specs.Programs.{tables_of};
 ghost use Rattle.star_meaning.specs.Run.{and_then, build, found, pay};
 ghost use Rattle.star_meaning.specs.declared.fault.FaultCode.TheVariants.{Unbound};
-ghost use Rattle.star_meaning.specs.Variables.{built_ins, core_built_ins, frame_of, further_built_ins, outermost};
+ghost use Rattle.star_meaning.specs.Variables.{built_ins, core_built_ins, frame_of, further_built_ins, outermost, own_values, recorded_from};
 
 use crate::world::World;
-use star_dialect::Dialect;
+use star_dialect::{Dialect, Language, Recorded};
 use star_machine::fault::{EvalError, fault_at};
 use star_machine::machine::Machine;
 use star_machine::setting::Setting;
@@ -186,10 +186,9 @@ fn built_in(dialect: Dialect, name: &str) -> Option<Value>
     }
 }
 
-/// The value of a name of the outermost block.
-#[inline(never)]
-fn outermost_value(dialect: Dialect, name: &str) -> Option<Value>
-    ensures { result ≡ global_of name.now (outermost dialect) }
+/// The value of a name of the language's own.
+fn own_value(dialect: Dialect, name: &str) -> Option<Value>
+    ensures { result ≡ global_of name.now (own_values dialect) }
 {
     if "None" == name {
         return Some(Value::NoneValue);
@@ -201,6 +200,29 @@ fn outermost_value(dialect: Dialect, name: &str) -> Option<Value>
         return Some(Value::Bool(false));
     }
     built_in(dialect, name)
+}
+
+/// The function with a recorded name.
+#[tactic(auto, using(crate::proofs::BuiltIns::recorded_at))]
+fn recorded_value(recorded: &Recorded, name: &str) -> Option<Value>
+    ensures { result ≡ global_of name.now (recorded_from 0 recorded.now) }
+{
+    match recorded.index(name) {
+        Some(place) => Some(Value::Builtin(BuiltIn::Recorded(place))),
+        None => None,
+    }
+}
+
+/// The value of a name of the outermost block.
+#[inline(never)]
+#[tactic(auto, using(crate::proofs::BuiltIns::own_first))]
+fn outermost_value(language: &Language, name: &str) -> Option<Value>
+    ensures { result ≡ global_of name.now (outermost language.now) }
+{
+    match own_value(language.dialect, name) {
+        Some(value) => Some(value),
+        None => recorded_value(&language.recorded, name),
+    }
 }
 
 /// The value at a spot; `None` if it is unbound.
@@ -219,7 +241,7 @@ fn at_spot(
             return value_in(machine, setting, slot, frame);
         }
         Some(Spot::Prelude) => prelude_value(setting, name),
-        Some(Spot::Outermost) => outermost_value(setting.dialect(), name),
+        Some(Spot::Outermost) => outermost_value(setting.language(), name),
         None => None,
     }
 }

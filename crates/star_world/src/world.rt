@@ -13,7 +13,7 @@ ghost use Rattle.star_world.specs.World.{world_of};
 
 use crate::files::Files;
 use crate::orders::Order;
-use star_dialect::Dialect;
+use star_dialect::Language;
 use star_machine::setting::Setting;
 use star_outline::blocks::BlockNames;
 use star_outline::outline::Definition;
@@ -57,19 +57,19 @@ impl<'a, 't> Model for World<'a, 't> {
 
 impl<'a, 't> World<'a, 't> {
     /// The environment of a file's run: the stores that it reaches, the programs of all files, its own loads, the
-    /// prelude's file, and the dialect.
+    /// prelude's file, and the language.
     pub fn new(
         home: u32,
         homes: &'a Homes<'a>,
         files: &'a Files<'a, 't>,
         loads: &'a [Load],
         prelude: Option<u32>,
-        dialect: Dialect,
+        language: &'a Language,
     ) -> World<'a, 't>
-        ensures { result ≡ world_of home homes.now files.now loads.now prelude dialect }
+        ensures { result ≡ world_of home homes.now files.now loads.now prelude language.now }
     {
         let statements = files.statements();
-        let setting = Setting::over(home, homes, statements, loads, prelude, dialect);
+        let setting = Setting::over(home, homes, statements, loads, prelude, language);
         let here = files.programs().program(home as usize);
         World {
             setting,

@@ -1,13 +1,15 @@
 -- The options that the arguments of a command line give.
-use Rattle.std.specs.Prelude.{◌≡◌, ℕ, ◌≤◌, ◌==◌, nat_eq, Bool, true, false, not, ◌||◌, ◌&&◌, List, [], ◌∷◌, Option, Some, None, codes, string_bytes, if◌then◌else◌}
+use Rattle.std.specs.Prelude.{◌≡◌, ℕ, ◌≤◌, ◌==◌, nat_eq, Bool, true, false, not, ◌||◌, ◌&&◌, List, [], ◌∷◌, Option, Some, None, codes, is_some, string_bytes, if◌then◌else◌}
 use Rattle.std.specs.Cmp.Lexicographic.{pointwise}
 use Rattle.std.specs.Option.{option_map_or}
 use Rattle.std.specs.Str.Parse.{IsNumeral, digits_value, without_leading_plus}
 use Rattle.clap.specs.Matches.{first_value, found_of, matched_of, one_text, raw_values}
+use Rattle.star_dialect.specs.Words.{with_name}
 use Rattle.star_dialect.specs.declared.Dialect.{Dialect}
 use Rattle.star_dialect.specs.declared.Dialect.TheVariants.{Core, Extended}
+use Rattle.star_dialect.specs.declared.Language.{Language}
 use Rattle.star_report.specs.declared.wanted.Output.{Output}
-use Rattle.star_report.specs.declared.wanted.Output.TheVariants.{Check, Global, Graph, Report}
+use Rattle.star_report.specs.declared.wanted.Output.TheVariants.{Calls, Check, Global, Graph, Report}
 use Rattle.star_report.specs.declared.wanted.Wanted.{Wanted}
 use Rattle.clap.specs.declared.parser.matches.ArgMatches.{ArgMatches}
 use Rattle.starload.specs.declared.command.Errors.{Errors}
@@ -51,11 +53,29 @@ IsNumberOf (Some word) low high other n = (m : ℕ) → Writes word m → low �
 abbrev pub dialect_of : ArgMatches → Dialect
 dialect_of matches = if is_named matches (codes "language") (codes "extended") then Extended else Core
 
--- more is wanted of each module by the words after `--with`, and of the roots alone by its flag
+-- whether calls are recorded, by `--record`
+abbrev pub is_recorded : ArgMatches → Bool
+is_recorded matches = is_some (first_value (found_of matches) (codes "record"))
+
+-- names, and further ones, each once
+abbrev pub each_once : List (List ℕ) → List (List ℕ) → List (List ℕ)
+each_once names [] = names
+each_once names (w ∷ ws) = each_once (with_name names w) ws
+
+-- the names after `--record`
+abbrev pub recorded_of : ArgMatches → List (List ℕ)
+recorded_of matches = each_once [] (values_of matches (codes "record"))
+
+-- the language: its dialect, and the names whose calls are recorded
+abbrev pub language_of : ArgMatches → Language
+language_of matches = record { dialect = dialect_of matches; recorded = recorded_of matches }
+
+-- more is wanted of each module by the words after `--with`, the calls by `--record`, and of the roots alone by its flag
 pub record IsWanted (matches : ArgMatches) (wanted : Wanted) : Type 0 where
   pub values : wanted.values ≡ is_named matches (codes "with") (codes "values")
   pub loads : wanted.loads ≡ is_named matches (codes "with") (codes "loads")
   pub steps : wanted.steps ≡ is_named matches (codes "with") (codes "steps")
+  pub calls : wanted.calls ≡ is_recorded matches
   pub only_roots : HasFlag matches (codes "only-roots") → wanted.only_roots ≡ true
   pub all : LacksFlag matches (codes "only-roots") → wanted.only_roots ≡ false
 
@@ -63,11 +83,12 @@ pub record IsWanted (matches : ArgMatches) (wanted : Wanted) : Type 0 where
 abbrev pub is_drawn : ArgMatches → Bool
 is_drawn matches = is_named matches (codes "graph") (codes "dot")
 
--- the check: of the files with nothing against them it shows the roots alone if their flag is there
+-- the check: of the files with nothing against them it shows the roots alone if their flag is there, and each module has
+-- an empty row of calls if calls are recorded
 abbrev pub IsCheckFor : ArgMatches → Output → Type 0
 IsCheckFor matches output =
-    (HasFlag matches (codes "only-roots") → output ≡ Check true)
-    × (LacksFlag matches (codes "only-roots") → output ≡ Check false)
+    (HasFlag matches (codes "only-roots") → output ≡ Check true (is_recorded matches))
+    × (LacksFlag matches (codes "only-roots") → output ≡ Check false (is_recorded matches))
 
 -- the globals of a name, where there is one, and else the report
 abbrev pub IsReportOrGlobal : ArgMatches → Option (List ℕ) → Output → Type 0
@@ -75,9 +96,18 @@ IsReportOrGlobal matches (Some name) (Global s) = string_bytes s ≡ name
 IsReportOrGlobal matches None (Report wanted) = IsWanted matches wanted
 IsReportOrGlobal matches name output = ⊥
 
--- where neither the graph nor the check is wanted: the globals of the name after `--get`, and else the report
+-- the calls of a name, where there is one, and else the globals of the name after `--get`, and else the report
+abbrev pub IsCallsOrOther : ArgMatches → Option (List ℕ) → Output → Type 0
+IsCallsOrOther matches (Some name) (Calls s) = string_bytes s ≡ name
+IsCallsOrOther matches (Some name) output = ⊥
+IsCallsOrOther matches None output =
+    IsReportOrGlobal matches (first_value (found_of matches) (codes "get")) output
+
+-- where neither the graph nor the check is wanted: the calls of the name after `--get-calls`, and else the globals of
+-- the name after `--get`, and else the report
 abbrev pub IsOtherOutput : ArgMatches → Output → Type 0
-IsOtherOutput matches output = IsReportOrGlobal matches (first_value (found_of matches) (codes "get")) output
+IsOtherOutput matches output =
+    IsCallsOrOther matches (first_value (found_of matches) (codes "get-calls")) output
 
 -- whether the text on faults is for tools
 abbrev pub is_for_tools : ArgMatches → Bool

@@ -6,13 +6,13 @@ ghost use Rattle.star_report.specs.declared.wanted.Output.TheVariants as Output;
 ghost use Rattle.starload.specs.Options as spec;
 
 use clap::{Arg, ArgAction, ArgMatches, Command, value_parser};
-use star_dialect::{Dialect, Mode};
+use star_dialect::{Dialect, Language, Mode, Recorded};
 use star_mistakes::place::Naming;
 use star_serve::serve::{Form, Options, Output, Style, Wanted};
 use std::alloc::{AllocError, Global};
 
 /// The words of `--version` after the program's name: its version, and the kit that proved it.
-const VERSION: &str = "1.11.0 (rattle-kit-13f logic dac8208d650f15bf)";
+const VERSION: &str = "1.12.0 (rattle-kit-13f logic dac8208d650f15bf)";
 
 /// The end of the help, after the options.
 const EXAMPLE: &str =
@@ -88,6 +88,15 @@ fn language_arg<'a>(alloc: Global) -> Arg<'a> {
         .help("The language of the files: core, or extended, which has more")
         .value_parser(LANGUAGES)
         .default_value("core")
+}
+
+fn record_arg<'a>(alloc: Global) -> Arg<'a> {
+    valued_arg(alloc, "record", "NAME")
+        .help(
+            "With --language extended: a further name, of a function whose calls the report has as JSON",
+        )
+        .value_delimiter(',')
+        .action(ArgAction::Append)
 }
 
 fn repo_arg<'a>(alloc: Global) -> Result<Arg<'a>, AllocError> {
@@ -192,6 +201,20 @@ fn get_arg<'a>(alloc: Global) -> Result<Arg<'a>, AllocError> {
         .conflicts_with("only-roots")
 }
 
+fn get_calls_arg<'a>(alloc: Global) -> Result<Arg<'a>, AllocError> {
+    valued_arg(alloc, "get-calls", "NAME")
+        .help(
+            "In place of the report writes each call of NAME that a root recorded as a line of JSON",
+        )
+        .requires_arg("record")?
+        .conflicts_with("get")?
+        .conflicts_with("graph")?
+        .conflicts_with("check")?
+        .conflicts_with("with")?
+        .conflicts_with("only-roots")?
+        .conflicts_with("report-status")
+}
+
 /// The words that `--graph` may have.
 const GRAPHS: &[&str] = &["dot", "json"];
 
@@ -230,6 +253,7 @@ fn requests_arg<'a>(alloc: Global) -> Result<Arg<'a>, AllocError> {
         .conflicts_with("exclude")?
         .conflicts_with("keep-going")?
         .conflicts_with("get")?
+        .conflicts_with("get-calls")?
         .conflicts_with("graph")?
         .conflicts_with("check")?
         .conflicts_with("trace")?
@@ -246,6 +270,7 @@ fn join_arg<'a>(alloc: Global) -> Result<Arg<'a>, AllocError> {
         .conflicts_with("dir")?
         .conflicts_with("prelude")?
         .conflicts_with("with")?
+        .conflicts_with("record")?
         .conflicts_with("get")?
         .conflicts_with("graph")?
         .conflicts_with("check")?
@@ -295,6 +320,7 @@ fn with_input<'a>(alloc: Global, command: Command<'a>) -> Result<Command<'a>, Al
         .arg(loaders_arg(alloc))?
         .arg(steps_arg(alloc))?
         .arg(language_arg(alloc))?
+        .arg(record_arg(alloc))?
         .arg(prelude_arg(alloc))?
         .arg(trace_arg(alloc))?
         .arg(dir_arg(alloc))?
@@ -312,6 +338,7 @@ fn with_output<'a>(alloc: Global, command: Command<'a>) -> Result<Command<'a>, A
         .arg(with_arg(alloc))?
         .arg(only_roots_arg(alloc))?
         .arg(get_arg(alloc)?)?
+        .arg(get_calls_arg(alloc)?)?
         .arg(graph_arg(alloc)?)?
         .arg(check_arg(alloc)?)?
         .arg(explain_arg(alloc))?
@@ -407,11 +434,19 @@ fn has_word(words: &[&str], value: &str) -> bool
     false
 }
 
+/// Whether calls are recorded, by `--record`.
+pub fn is_recorded(matches: &ArgMatches<'_>) -> bool
+    ensures { result ≡ spec.is_recorded matches.now }
+{
+    matches.get_str("record").is_some()
+}
+
 /// The further members of each module that the words of the command line want, and whether they want the roots alone.
 fn wanted(matches: &ArgMatches<'_>) -> Wanted
     ensures values { result.values ≡ spec.is_named matches.now (codes "with") (codes "values") }
     ensures loads { result.loads ≡ spec.is_named matches.now (codes "with") (codes "loads") }
     ensures steps { result.steps ≡ spec.is_named matches.now (codes "with") (codes "steps") }
+    ensures calls { result.calls ≡ spec.is_recorded matches.now }
     ensures only_roots { spec.HasFlag matches.now (codes "only-roots") → (result.only_roots ≡ true) }
     ensures all { spec.LacksFlag matches.now (codes "only-roots") → (result.only_roots ≡ false) }
 {
@@ -419,6 +454,7 @@ fn wanted(matches: &ArgMatches<'_>) -> Wanted
         values: is_named(matches, "with", "values"),
         loads: is_named(matches, "with", "loads"),
         steps: is_named(matches, "with", "steps"),
+        calls: is_recorded(matches),
         only_roots: matches.get_flag("only-roots"),
     }
 }
@@ -437,7 +473,11 @@ fn output(alloc: Global, matches: &ArgMatches<'_>) -> Result<Output, AllocError>
     }
     if matches.get_flag("check") {
         let only_roots = matches.get_flag("only-roots");
-        return Ok(Output::Check { only_roots });
+        let calls = is_recorded(matches);
+        return Ok(Output::Check { only_roots, calls });
+    }
+    if let Some(name) = value_of(alloc, matches, "get-calls")? {
+        return Ok(Output::Calls(name));
     }
     match value_of(alloc, matches, "get")? {
         Some(name) => Ok(Output::Global(name)),
@@ -557,6 +597,27 @@ fn dialect(matches: &ArgMatches<'_>) -> Dialect
     }
 }
 
+/// Words as names whose calls are recorded, each once.
+fn each_once(alloc: Global, words: &[&str]) -> Result<Recorded, AllocError>
+    ensures { IfOk result (λ names. names ≡ spec.each_once [] (map (λ w. w.now) words.now)) }
+{
+    let mut recorded = Recorded::none(alloc);
+    for word in words {
+        recorded.add(alloc, *word)?;
+    }
+    Ok(recorded)
+}
+
+/// The names after `--record`, each once.
+fn recorded(alloc: Global, matches: &ArgMatches<'_>) -> Result<Recorded, AllocError>
+    ensures { IfOk result (λ names. names ≡ spec.recorded_of matches.now) }
+{
+    match matches.get_strs("record") {
+        Some(words) => each_once(alloc, words),
+        None => Ok(Recorded::none(alloc)),
+    }
+}
+
 /// The options that the words of the command line give: the roots in their order, and nothing that shows how far the run
 /// is. `Memory` if an allocation failed.
 pub fn options(
@@ -570,7 +631,7 @@ pub fn options(
         spec.IsNumberOf (one_text (found_of matches.now) (codes "loaders")) 1 64 4 o.loaders) }
     ensures steps_given { IfOk result (λ o.
         spec.IsNumberOf (one_text (found_of matches.now) (codes "steps")) 1 100000000 1000000 o.mode.steps) }
-    ensures language { IfOk result (λ o. o.mode.dialect ≡ spec.dialect_of matches.now) }
+    ensures language { IfOk result (λ o. o.mode.language ≡ spec.language_of matches.now) }
     ensures roots { IfOk result (λ o. map string_bytes o.roots.items ≡ spec.values_of matches.now (codes "ROOT")) }
     ensures prelude { IfOk result (λ o. option_map string_bytes o.prelude
         ≡ first_value (found_of matches.now) (codes "prelude")) }
@@ -592,7 +653,10 @@ pub fn options(
         loaders: loaders.clamp(1, 64),
         mode: Mode {
             steps: steps.clamp(1, 100_000_000),
-            dialect: dialect(matches),
+            language: Language {
+                dialect: dialect(matches),
+                recorded: recorded(alloc, matches)?,
+            },
         },
         roots: values_of(alloc, matches, "ROOT")?,
         prelude: value_of(alloc, matches, "prelude")?,

@@ -26,12 +26,13 @@ mod topics;
 
 use clap::error::ErrorKind;
 use clap::{ArgMatches, Command};
-use command::{Errors, command, exit_status, is_listed, is_shown, options};
+use command::{Errors, command, exit_status, is_listed, is_recorded, is_shown, options};
 use progress::Shown;
 use repo::{RepoAsked, report_repo};
 use requests::{FolderAsked, answer_requests};
 use roots::{further_roots, say_no_roots};
 use star_bundle::error::{ServeError, status};
+use star_dialect::Dialect;
 use star_folder::disk::DiskFolder;
 use star_folder::folder::Folder;
 use star_folder::system::SystemDisk;
@@ -296,6 +297,10 @@ fn asked_options(
         refused(rt, ServeError::Memory.text());
         return None;
     };
+    if is_recorded(matches) && options.mode.language.dialect == Dialect::Core {
+        refused(rt, "`--record` needs `--language extended`");
+        return None;
+    }
     options.seed = seed_of(rt);
     let mut further = match further_roots(rt, alloc, matches) {
         Ok(roots) => roots,

@@ -28,11 +28,13 @@ How they run
   --loaders N         N files side by side, 1 to 64 (4)
   --steps N           at most N steps for each file, 1 to 100000000 (1000000)
   --language LANGUAGE core, or extended, which has more
+  --record NAME       with extended: one more function; the report has what it is called with; NAME,NAME for several
 
 What is written
   --with WHAT         more in the report: values (the globals as JSON), loads, steps
   --only-roots        of the files that are ok only the roots
   --get NAME          only the global NAME of each root, a line of JSON each
+  --get-calls NAME    only the calls of NAME by the roots, which --record names, a line of JSON each
   --check             nothing runs: which files have faults that show without a run
   --graph             the graph of loads, as DOT; --graph=json: what each file of --repo loads, and nothing runs
   --join              the join of the reports on standard input, one a line
@@ -90,6 +92,7 @@ A request is a JSON object with
   prelude    a label, or null
   steps      a number from 1 to 100000000
   language   core or extended
+  record     with extended: an array of names whose calls the report has
   with       an array of some of values, loads, steps, only-roots
   id         any JSON; the answer has it
   changed    with --repo DIR, in place of files: an array of the paths that have changed

@@ -1,14 +1,14 @@
 -- The answer of a call of the library.
-use Rattle.std.specs.Prelude.{◌≡◌, ◌≢◌, ◌<◌, ◌≤◌, ◌⊎◌, ◌++◌, ℕ, List, [], All, Bool, IfSome, Option, Some, None, Result, drop, length, map, if◌then◌else◌}
+use Rattle.std.specs.Prelude.{false, ◌≡◌, ◌≢◌, ◌<◌, ◌≤◌, ◌⊎◌, ◌++◌, ℕ, List, [], All, Bool, IfSome, Option, Some, None, Result, drop, length, map, if◌then◌else◌}
 use Rattle.std.specs.Prelude.{Ok}
 use Rattle.std.specs.Str.{IsUtf8}
 use Rattle.star_bundle.specs.Bundle as bundle
 use Rattle.star_bundle.specs.declared.error.ServeError.{ServeError}
-use Rattle.star_bundle.specs.declared.error.ServeError.TheVariants.{Read, TooBig, BadDir, BadFile, NotText, BadBundle, BadKey, TooMany, TooLong, BadRoot, NoRoot, BadPrelude, NoPrelude, Memory, Write, Unpublished}
+use Rattle.star_bundle.specs.declared.error.ServeError.TheVariants.{Read, TooBig, BadDir, BadFile, NotText, BadBundle, BadKey, TooMany, TooLong, BadRoot, NoRoot, BadPrelude, NoPrelude, BadRecord, Memory, Write, Unpublished}
 use Rattle.star_dialect.specs.declared.Dialect.TheVariants.{Core}
 use Rattle.star_dialect.specs.declared.Mode.{Mode}
 use Rattle.star_report.specs.declared.wanted.Wanted.{Wanted}
-use Rattle.star_alone.specs.Alone.{IsAnswered, IsRefusedBy, asked_within}
+use Rattle.star_alone.specs.Alone.{IsAnswered, IsRefusedBy, asked_within, recording}
 use Rattle.starload_c.specs.declared.asked.Asked.{Asked}
 use Rattle.starload_c.specs.declared.asked.Answer.{Answer}
 
@@ -21,15 +21,21 @@ prelude_of a = if a.has_prelude then Some a.prelude.now else None
 
 abbrev pub wanted_of : Asked → Wanted
 wanted_of a =
-    record { values = a.with_values; loads = a.with_loads; steps = a.with_steps; only_roots = a.only_roots }
+    record {
+      values = a.with_values;
+      loads = a.with_loads;
+      steps = a.with_steps;
+      calls = false;
+      only_roots = a.only_roots;
+    }
 
 -- the mode in which files run: the core language, with these steps
 abbrev pub mode_of : Asked → Mode
-mode_of a = record { steps = a.steps; dialect = Core }
+mode_of a = record { steps = a.steps; language = record { dialect = Core; recorded = [] } }
 
 -- the input that the bundle is for these words, or the refusal of it
 abbrev pub asked_by : Asked → Result bundle.Asked ServeError
-asked_by a = asked_within (words_of a) (prelude_of a) a.bundle.now
+asked_by a = recording (mode_of a) (asked_within (words_of a) (prelude_of a) a.bundle.now)
 
 -- the steps that a file may take
 abbrev pub StepsFit : Asked → Type 0
@@ -67,6 +73,7 @@ refusal_of Unpublished = 13
 refusal_of BadDir = 14
 refusal_of BadFile = 15
 refusal_of NotText = 16
+refusal_of BadRecord = 19
 
 -- the number of a refusal of the request: 17 if the steps do not fit, or else 18 if the words do not
 abbrev pub IsRefusal : Asked → ℕ → Type 0

@@ -5,7 +5,7 @@ ghost use Rattle.std.specs.Str.{IsUtf8};
 ghost use Rattle.starload_c.specs.Calls as spec;
 
 use star_bundle::error::ServeError;
-use star_dialect::{Dialect, Mode};
+use star_dialect::Mode;
 use star_report::wanted::Wanted;
 use std::alloc::{AllocError, Global};
 
@@ -67,6 +67,7 @@ pub fn refusal_of(error: ServeError) -> u32
         ServeError::BadDir => 14,
         ServeError::BadFile => 15,
         ServeError::NotText => 16,
+        ServeError::BadRecord => 19,
     }
 }
 
@@ -123,18 +124,16 @@ impl<'a> Asked<'a> {
             values: self.with_values,
             loads: self.with_loads,
             steps: self.with_steps,
+            calls: false,
             only_roots: self.only_roots,
         }
     }
 
     /// The mode in which files run: the core language, with these steps.
-    pub(crate) fn mode(&self) -> Mode
+    pub(crate) fn mode(&self, alloc: Global) -> Mode
         ensures { result ≡ spec.mode_of self.now }
     {
-        Mode {
-            steps: self.steps,
-            dialect: Dialect::Core,
-        }
+        Mode::core(alloc, self.steps)
     }
 
     /// Whether the steps are from 1 to 100,000,000.

@@ -28,7 +28,7 @@ fn served(alloc: Global, asked: &Asked<'_>) -> Result<Answered, ServeError>
         asked.bundle,
         roots.as_slice(),
         prelude.as_ref(),
-        asked.mode(),
+        &asked.mode(alloc),
         asked.wanted(),
     )
 }

@@ -1,7 +1,7 @@
 //! Tests of the resolver: the spots of the names of small files.
 
 use star_checks::{holds, reads};
-use star_dialect::Dialect;
+use star_dialect::{Dialect, Language};
 use star_label::files::Files;
 use star_label::label::Label;
 use star_parser::parse;
@@ -79,7 +79,8 @@ fn shown_by<'t>(
 ) -> Result<String, Fail> {
     let files = two(alloc)?;
     assert!(rt; 0 < files.len());
-    Ok(shown(alloc, &resolve(alloc, &files, 0, tree, seen, Dialect::Core))?)
+    let language = Language::of(alloc, Dialect::Core);
+    Ok(shown(alloc, &resolve(alloc, &files, 0, tree, seen, &language))?)
 }
 
 /// Asserts that the names of a row's text are placed as the row says.

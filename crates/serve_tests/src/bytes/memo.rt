@@ -5,7 +5,7 @@ ghost use Rattle.star_memo.specs.Parses.{AreKept};
 ghost use Rattle.star_memo.specs.Readings.{AreReadings};
 
 use star_checks::holds;
-use star_dialect::{Dialect, Mode};
+use star_dialect::{Dialect, Language, Mode};
 use star_host::{Reads, Texts, read_parsed};
 use star_label::files::Files;
 use star_label::label::Label;
@@ -62,14 +62,14 @@ fn read_over<'t, R: Threads + Wait + Sync>(
     requires files { 2 ≤ length files.now }
     requires readings { AreReadings files.now readings.old }
     requires prelude { readings.old.prelude ≡ None }
-    requires dialect { readings.old.dialect ≡ Dialect.Core }
     ensures { OnOk result (AreReadings files.now readings.new) }
 {
+    let language = readings.language.share(alloc)?;
     let texts = Texts {
         files,
         trees: &arena.trees,
         parses: readings.parses.as_slice(),
-        dialect: Dialect::Core,
+        language: &language,
     };
     let none = Reads::new(alloc);
     let reads = read_parsed(rt, alloc, texts, none, &[0, 1], None, 2)?;
@@ -90,7 +90,7 @@ fn read_two<'t, R: Threads + Wait + Sync>(
     let mut parses = unparsed(alloc, files)?;
     let first = [0, 1].iter().copied().collect(alloc)?;
     parses.parse_reached(rt, alloc, files, &[], first, 2)?;
-    let mut readings = Readings::new(alloc, None, Dialect::Core);
+    let mut readings = Readings::new(alloc, None, Language::of(alloc, Dialect::Core));
     readings.take_parses(rt, arena, files, &parses)?;
     read_over(rt, alloc, files, arena, &mut readings)?;
     Ok(readings)
@@ -113,7 +113,7 @@ fn the_reading_of_a_text_that_stays_is_kept(rt: HostRuntime) -> Result<(), Fail>
         alloc,
         &Compared::new(&before, &files, same.as_slice()),
         None,
-        Dialect::Core,
+        Language::of(alloc, Dialect::Core),
     );
     holds!(&rt; matches!(readings.reads.all.as_slice(), [Some(_), None]), "the first stays");
     holds!(&rt; matches!(readings.parses.as_slice(), [Some(_), None]), "so does its tree");
@@ -122,7 +122,7 @@ fn the_reading_of_a_text_that_stays_is_kept(rt: HostRuntime) -> Result<(), Fail>
         alloc,
         &Compared::new(&files, &files, same.as_slice()),
         Some(0),
-        Dialect::Core,
+        Language::of(alloc, Dialect::Core),
     );
     holds!(&rt; readings.reads.all.is_empty(), "with another prelude none stays");
     let none = Parses::new(alloc);
@@ -171,12 +171,9 @@ fn no_outcome_is_kept_of_no_run(rt: HostRuntime) -> Result<(), Fail> {
     let files = pair(alloc, "y = 2")?;
     let terms = Terms {
         prelude: None,
-        mode: Mode {
-            steps: 9,
-            dialect: Dialect::Core,
-        },
+        mode: Mode::core(alloc, 9),
     };
-    let none = Outcomes::new(alloc, terms);
+    let none = Outcomes::new(alloc, terms.share(alloc)?);
     let same = same_texts(alloc, &files, &files)?;
     let compared = Compared::new(&files, &files, same.as_slice());
     let (outcomes, others) = none.after(&rt, alloc, &compared, terms, 2)?;

@@ -20,4 +20,4 @@ returns-clause-refused c =
     if_ok c.run_named.result (λ x all. (plan, subst (λ fs. IsPlanOf fs plan) c.new-common.ensures.files c.new-common.ensures.world.planned, c.new-common.ensures.roots, c.new-common.ensures.prelude, c.new-common.ensures.mode, all)) c.run_named.ensures.refused
 
 pub new-common-requires-clause-ends : goal.new-common-requires-clause-ends
-new-common-requires-clause-ends c = no_ends c.args.files.now c.args.options.roots.now c.args.options.prelude c.args.options.mode
+new-common-requires-clause-ends c = no_ends c.args.files.now c.args.options.roots.now c.args.options.prelude c.args.options.mode.now

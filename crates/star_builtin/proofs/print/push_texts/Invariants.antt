@@ -1,5 +1,5 @@
 use Rattle.std.proofs.Common.{◌≡◌, ◌∷◌}
-use Rattle.star_meaning.specs.BuiltIns.{joined}
+use Rattle.star_meaning.specs.Texts.{joined}
 use Rattle.star_builtin.proofs.print.push_texts.Given as goal
 
 abbrev pub invariant-loop-text : goal.invariant-loop-text

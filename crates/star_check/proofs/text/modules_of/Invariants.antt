@@ -5,4 +5,4 @@ use Rattle.star_check.specs.Judged.{shown_of}
 use Rattle.star_check.proofs.text.modules_of.Given as goal
 
 abbrev pub invariant-loop-it : goal.invariant-loop-it
-invariant-loop-it l = (roots : List ℕ) → AreMarked roots l.marks → map view l.modules.items ≡ shown_of l.files l.only_roots roots (take l.it-index l.judged)
+invariant-loop-it l = (roots : List ℕ) → AreMarked roots l.marks → map view l.modules.items ≡ shown_of l.files l.only_roots l.calls roots (take l.it-index l.judged)

@@ -10,7 +10,7 @@ use Rattle.star_host.proofs.running.run_in.Goals as goal
 
 pub read_parsed-requires-clause-known : goal.read_parsed-requires-clause-known
 read_parsed-requires-clause-known g c =
-    λ lives within. subst (λ (r : Reads). AreKnown c.args.files.now c.args.options.prelude c.args.options.mode.dialect r.all.items) (sym c.replace-before.ensures.value) c.requires.reads
+    λ lives within. subst (λ (r : Reads). AreKnown c.args.files.now c.args.options.prelude c.args.options.mode.now.language r.all.items) (sym c.replace-before.ensures.value) c.requires.reads
 
 pub returns-clause-modules : goal.returns-clause-modules
 returns-clause-modules g c =

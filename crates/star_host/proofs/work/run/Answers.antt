@@ -24,7 +24,7 @@ ended_of-requires-clause-ran g c =
     let holds : HoldsNeeds plan c.args.n shelf = holds_needs plan c.args.n (row_of reaches) c.in_ok-reaches.ensures.needed c.in_ok-reaches.ensures.all in
     let may = body_may_run g.J.RunId.files plan common.programs.now common.reads.now c.args.n program shelf (map (λ (m : Bor Module). m.now) c.args.modules.now) world.planned world.placed world.row_is c.requires.read c.requires.loads mine.tight holds in
     let pays = body_pays g.J.RunId.files plan common.programs.now common.reads.now c.args.n program shelf (map (λ (m : Bor Module). m.now) c.args.modules.now) world.placed world.row_is c.requires.read c.requires.loads mine.tight holds in
-    let ran : IsRan plan c.args.n c.in_ok-outcome.outcome = ran_so plan common.programs.now c.args.n c.file_number-home.result program.statements.now shelf program.loads.items c.prelude_file-prelude.result common.mode (Ok c.in_ok-outcome.outcome) may pays at
+    let ran : IsRan plan c.args.n c.in_ok-outcome.outcome = ran_so plan common.programs.now c.args.n c.file_number-home.result program.statements.now shelf program.loads.items c.prelude_file-prelude.result common.mode.now (Ok c.in_ok-outcome.outcome) may pays at
     (loads_in_row plan common.reads.now c.args.n program world.row_is c.requires.read) (c.prelude_file-prelude.ensures ∙ world.prelude_is) world.mode_is c.in_ok-outcome.ensures.names c.in_ok-outcome.ensures.named in
     subst (λ k. IsRan plan k c.in_ok-outcome.outcome) (sym at) ran
 

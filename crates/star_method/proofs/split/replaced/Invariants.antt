@@ -1,8 +1,7 @@
 use Rattle.std.proofs.Common.{◌≡◌, ◌++◌, length}
 use denote.Shadow.{shadow}
 use denote.Text.{Utf8}
-use Rattle.star_meaning.specs.BuiltIns.{joined}
-use Rattle.star_meaning.specs.Texts.{parts}
+use Rattle.star_meaning.specs.Texts.{parts, joined}
 use Rattle.star_method.proofs.split.replaced.Given as goal
 
 abbrev pub invariant-loop-before : goal.invariant-loop-before

@@ -17,4 +17,4 @@ returns-clause-read g c =
 pub returns-clause-others : goal.returns-clause-others
 returns-clause-others g c =
     let is = subst (IsPrelude c.args.texts.files.now c.args.prelude) (sym c.as_ref.ensures.value) c.in_ok-block.ensures.prelude in
-    IfOk-weaker c.read_by.result _ _ (λ r right. known_by c.args.texts.files.now c.args.prelude c.args.texts.dialect (option_copied c.as_ref.result) r.others.items is right) c.read_by.ensures.others
+    IfOk-weaker c.read_by.result _ _ (λ r right. known_by c.args.texts.files.now c.args.prelude c.args.texts.language.now (option_copied c.as_ref.result) r.others.items is right) c.read_by.ensures.others

@@ -5,7 +5,7 @@ use Rattle.serde_json.specs.View.{items_of, view}
 use Rattle.serde_json.specs.Written.{compact_text, has_float}
 use Rattle.serde_json.specs.declared.value.Value.{Array}
 use Rattle.serde_json.proofs.Views.{view-Array}
-use Rattle.star_plan.specs.Text.{globals_data, texts_data}
+use Rattle.star_plan.specs.Text.{globals_data, lines_in, texts_data}
 use Rattle.star_report.specs.Pages.{text_around}
 use Rattle.star_report.proofs.NoFloat.{texts_none}
 use Rattle.star_report.proofs.Wells.{well_text}
@@ -14,7 +14,7 @@ use Rattle.star_report.proofs.report.good_text.Goals as goal
 pub returns : goal.returns
 returns c =
     let label = c.args.label.now in
-    let lines = c.args.lines.now in
+    let lines = lines_in c.args.lines.now in
     let globals : List ℕ = compact_text (globals_data c.args.shown.now) in
     let named : view c.in_ok-try_from_str.field-0 ≡ string label = c.in_ok-try_from_str.ensures in
     let name : c.in_ok-label.label.items ≡ compact_text (string label) = c.in_ok-label.ensures.text (ap has_float named) ∙ ap compact_text named in

@@ -1,13 +1,12 @@
-use Rattle.std.proofs.Common.{◌≡◌, sym, ap, ◌∙◌, ◌||◌, false}
-use Rattle.std.proofs.lemmas.List.Folds.{list_any-append}
-use Rattle.star_outline.specs.Names.{has_name, same_name}
-use Rattle.star_scope.specs.Places.{core_names, further_names, outermost_names}
+use Rattle.std.proofs.Common.{◌≡◌, ◌||◌, ap, is_some, sym, ◌∙◌}
+use Rattle.star_dialect.specs.Words.{index_of}
+use Rattle.star_scope.proofs.Recorded.{either_name}
 use Rattle.star_scope.proofs.chain.is_outermost.Goals as goal
 
-pub returns-else-is_among : goal.returns-else-is_among
-returns-else-is_among c =
+pub returns-else-is_own : goal.returns-else-is_own
+returns-else-is_own c =
+    let l = c.args.language.now in
     let name = c.args.name.now in
-    let core : has_name core_names name ≡ false = sym c.is_among-in-Extended.ensures ∙ c.if-is_among.false in
-    c.is_among-else-is_among.ensures
-    ∙ sym (ap (λ d. has_name (outermost_names d) name) c.in-Extended.is
-    ∙ list_any-append (same_name name) core_names further_names ∙ ap (λ b. b || has_name further_names name) core)
+    c.is_some.ensures
+    ∙ ap is_some c.index.ensures
+    ∙ sym (either_name l name ∙ ap (λ b. b || is_some (index_of name l.recorded)) (sym c.is_own.ensures ∙ c.if-is_own.false))

@@ -22,5 +22,5 @@ returns-clause-first c = (whole c).found
 
 pub returns-clause-spots : goal.returns-clause-spots
 returns-clause-spots c = λ none.
-    all_placed (spot_at c.place_statements.new.placed.spots) c.args.scope.now.blocks.now (outer_shown c.args.scope.now.prelude c.args.scope.now.dialect) (uses c.args.statements.now)
+    all_placed (spot_at c.place_statements.new.placed.spots) c.args.scope.now.blocks.now (outer_shown c.args.scope.now.prelude c.args.scope.now.language) (uses c.args.statements.now)
     (sym (whole c).found ∙ none) (whole c).have

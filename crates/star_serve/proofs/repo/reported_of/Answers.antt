@@ -7,6 +7,7 @@ use Rattle.star_reading.specs.Parsed.{AreParsesOf}
 use Rattle.star_serve.proofs.Traced.{if_ok_both}
 use Rattle.star_serve.proofs.Refusals.{IsOfWords, if_err, words_kind}
 use Rattle.star_serve.proofs.RepoRefusals.{asked_files, asked_refused, asked_writes, run_refused}
+use Rattle.star_serve.proofs.Recording.{recorded_ok}
 use Rattle.star_serve.proofs.Spoken.{same_by_words}
 use Rattle.star_serve.proofs.repo.reported_of.Goals as goal
 
@@ -35,7 +36,7 @@ pub returns-clause-ok : goal.returns-clause-ok
 returns-clause-ok g c =
     let files = c.args.reached.files in
     let same = same_by_words (λ rs p. asked_among rs p files) c.args.options.now c.as_slice.result.now c.as_ref.result c.as_slice.ensures.value c.as_ref.ensures.value in
-    IfOk-weaker c.reported_over-outcome.result _ _ (λ all_ok h. (asked_view c.in-Ok.asked, same ∙ c.in-Ok.ensures.asked, h.0, h.1))
+    IfOk-weaker c.reported_over-outcome.result _ _ (λ all_ok h. (asked_view c.in-Ok.asked, recorded_ok c.args.options.now _ (asked_view c.in-Ok.asked) c.requires.recorded (same ∙ c.in-Ok.ensures.asked), h.0, h.1))
     (if_ok_both c.reported_over-outcome.result _ _ c.reported_over-outcome.ensures.ok c.reported_over-outcome.ensures.traced)
 
 pub reported_over-outcome-requires-clause-parses : goal.reported_over-outcome-requires-clause-parses

@@ -9,12 +9,12 @@ use Rattle.star_serve.proofs.serve.answered.Goals as goal
 pub written_of-requires-clause-reads : goal.written_of-requires-clause-reads
 written_of-requires-clause-reads g c =
     let asked = c.args.job.now.asked.now in
-    λ lives within. row_size asked.files c.as_slice-roots.result.now asked.prelude c.args.options.now.mode.dialect c.run_in-outcome.new.reads.all.items c.in-Ok.ensures.read
+    λ lives within. row_size asked.files c.as_slice-roots.result.now asked.prelude c.args.options.now.mode.language c.run_in-outcome.new.reads.all.items c.in-Ok.ensures.read
 
 pub written_of-requires-clause-loads : goal.written_of-requires-clause-loads
 written_of-requires-clause-loads g c =
     let asked = c.args.job.now.asked.now in
-    λ lives within. lead_within asked.files c.as_slice-roots.result.now asked.prelude c.args.options.now.mode.dialect c.run_in-outcome.new.reads.all.items c.in-Ok.ensures.read
+    λ lives within. lead_within asked.files c.as_slice-roots.result.now asked.prelude c.args.options.now.mode.language c.run_in-outcome.new.reads.all.items c.in-Ok.ensures.read
 
 pub returns-clause-text : goal.returns-clause-text
 returns-clause-text g c =
@@ -49,4 +49,4 @@ returns-clause-modules g c =
 pub returns-clause-read : goal.returns-clause-read
 returns-clause-read g c =
     let asked = c.args.job.now.asked.now in
-    subst (λ roots. IsReadOf asked.files roots asked.prelude c.args.options.now.mode.dialect c.run_in-outcome.new.reads.all.items) c.as_slice-roots.ensures.value c.in-Ok.ensures.read
+    subst (λ roots. IsReadOf asked.files roots asked.prelude c.args.options.now.mode.language c.run_in-outcome.new.reads.all.items) c.as_slice-roots.ensures.value c.in-Ok.ensures.read

@@ -60,7 +60,7 @@ returns-in-Check-clause-traced g c =
     let asked = asked_view c.args.job.now.asked.now in
     let options = c.args.options.now in
     if_ok-map c.checked_over.result
-    (λ ok h none same. rw c.in-Check.is (checked_said asked options.mode c.in-Check.only_roots ok options.trace h.0.0 (g.E.Sink.taken c.args.errors.now) (g.E.Sink.taken c.checked_over.new.errors) (ap g.E.Sink.taken (h.1 none)) h.0.2))
+    (λ ok h none same. rw c.in-Check.is (checked_said asked options.mode c.in-Check.only_roots c.in-Check.calls ok options.trace h.0.0 (g.E.Sink.taken c.args.errors.now) (g.E.Sink.taken c.checked_over.new.errors) (ap g.E.Sink.taken (h.1 none)) h.0.2))
     (if_ok_both c.checked_over.result _ _ c.checked_over.ensures.ok c.checked_over.ensures.untold)
 
 pub returns-in-Check-clause-untraced : goal.returns-in-Check-clause-untraced
@@ -69,4 +69,4 @@ returns-in-Check-clause-untraced g c = if_ok-map c.checked_over.result (λ ok h 
 pub answered-requires-clause-reads : goal.answered-requires-clause-reads
 answered-requires-clause-reads g c =
     let asked = c.args.job.now.asked.now in
-    λ lives within. none_known asked.files asked.prelude c.args.options.now.mode.dialect c.new-reads.result.all.items c.new-reads.ensures
+    λ lives within. none_known asked.files asked.prelude c.args.options.now.mode.language c.new-reads.result.all.items c.new-reads.ensures

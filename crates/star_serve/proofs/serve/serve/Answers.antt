@@ -1,8 +1,9 @@
-use Rattle.std.proofs.Common.{◌≡◌, refl, ap, sym, ◌∙◌, arith, map, string_bytes}
+use Rattle.std.proofs.Common.{◌≡◌, false, true, refl, ap, sym, ◌∙◌, arith, map, string_bytes}
 use Rattle.std.specs.Option.{option_map}
 use Rattle.std.proofs.lemmas.Result.{IfOk-weaker}
 use Rattle.star_bundle.specs.Bundle.{asked_of}
-use Rattle.star_serve.specs.Serve.{Asks, BreaksOff, Overruns}
+use Rattle.star_serve.specs.Serve.{Asks, BreaksOff, Overruns, may_record, recording}
+use Rattle.star_serve.proofs.Recording.{recorded_not, recorded_ok}
 use Rattle.star_bundle.specs.View.{asked_view}
 use Rattle.star_serve.proofs.Traced.{if_ok_both}
 use Rattle.star_serve.proofs.Refusals.{asked_kind, refused_by, run_refused, run_reads, if_err, no_read_failed, no_write_failed}
@@ -21,7 +22,7 @@ returns-in-Err-asked_for-clause-refused g c =
     let read = ap (asked_of roots prelude) c.as_slice.ensures.value in
     refused_by (Asks old new options) (BreaksOff old new) (Overruns old new) (c.args.writer.now ≡ c.args.writer.now)
     c.in-Err-asked_for.error given c.in-Err-asked_for.ensures.asked (asked_kind roots prelude c.as_slice.result.now)
-    (c.in-Ok.bytes.items, (c.in-Ok.ensures.ok, c.in-Ok.ensures.within), same ∙ sym read) refl
+    (λ e is. (c.in-Ok.bytes.items, (c.in-Ok.ensures.ok, c.in-Ok.ensures.within), ap (recording options) (same ∙ sym read ∙ is))) refl
 
 pub returns-in-Err-asked_for-clause-reads : goal.returns-in-Err-asked_for-clause-reads
 returns-in-Err-asked_for-clause-reads g c =
@@ -45,7 +46,8 @@ returns-clause-refused g c =
     let same = same_by_words (λ rs p. asked_of rs p c.in-Ok.bytes.items) options c.as_slice-2.result.now c.as_ref.result c.as_slice-2.ensures.value c.as_ref.ensures.value in
     let read = ap (asked_of (map string_bytes c.as_slice-2.result.now) (option_map (λ p. string_bytes p.now) c.as_ref.result)) c.as_slice.ensures.value in
     let asked = asked_view c.in-Ok-asked_for.asked in
-    let found = same ∙ sym read ∙ c.in-Ok-asked_for.ensures.asked in
+    let may : may_record options ≡ true = sym c.may_record.ensures ∙ c.if-not-may_record.false in
+    let found = recorded_ok options _ asked may (same ∙ sym read ∙ c.in-Ok-asked_for.ensures.asked) in
     if_err c.reported.result _ _
     (λ e h. run_refused (Asks old new options) (BreaksOff old new) (Overruns old new) (c.reported.new.writer ≡ c.args.writer.now)
     e asked h (c.in-Ok.bytes.items, (c.in-Ok.ensures.ok, c.in-Ok.ensures.within), found))
@@ -60,7 +62,17 @@ returns-clause-ok g c =
     let same = same_by_words (λ rs p. asked_of rs p c.in-Ok.bytes.items) options c.as_slice-2.result.now c.as_ref.result c.as_slice-2.ensures.value c.as_ref.ensures.value in
     let read = ap (asked_of (map string_bytes c.as_slice-2.result.now) (option_map (λ p. string_bytes p.now) c.as_ref.result)) c.as_slice.ensures.value in
     let asked = asked_view c.in-Ok-asked_for.asked in
-    let found = same ∙ sym read ∙ c.in-Ok-asked_for.ensures.asked in
+    let may : may_record options ≡ true = sym c.may_record.ensures ∙ c.if-not-may_record.false in
+    let found = recorded_ok options _ asked may (same ∙ sym read ∙ c.in-Ok-asked_for.ensures.asked) in
     IfOk-weaker c.reported.result _ _
     (λ all_ok h. (asked, (c.in-Ok.bytes.items, (c.in-Ok.ensures.ok, c.in-Ok.ensures.within), found), h.0, h.1))
     (if_ok_both c.reported.result _ _ c.reported.ensures.ok c.reported.ensures.traced)
+
+pub returns-then-not-may_record-clause-refused : goal.returns-then-not-may_record-clause-refused
+returns-then-not-may_record-clause-refused g c =
+    let options = c.args.options.now in
+    let same = same_by_words (λ rs p. asked_of rs p c.in-Ok.bytes.items) options c.as_slice-2.result.now c.as_ref.result c.as_slice-2.ensures.value c.as_ref.ensures.value in
+    let read = ap (asked_of (map string_bytes c.as_slice-2.result.now) (option_map (λ p. string_bytes p.now) c.as_ref.result)) c.as_slice.ensures.value in
+    let may : may_record options ≡ false = sym c.may_record.ensures ∙ c.if-not-may_record.true in
+    let found = recorded_not options _ (asked_view c.in-Ok-asked_for.asked) may (same ∙ sym read ∙ c.in-Ok-asked_for.ensures.asked) in
+    ((c.in-Ok.bytes.items, (c.in-Ok.ensures.ok, c.in-Ok.ensures.within), found), refl)

@@ -7,5 +7,5 @@ pub returns-clause-text : goal.returns-clause-text
 returns-clause-text c = λ run plan of.
     let files = c.args.files.now in
     let row = c.args.reads.now.all.items in
-    let read = read_plan files row plan c.len-count.ensures.ordered of.planned (subst (λ rs. IsReadOf files rs plan.prelude plan.mode.dialect row) (sym of.roots_are) of.read) in
+    let read = read_plan files row plan c.len-count.ensures.ordered of.planned (subst (λ rs. IsReadOf files rs plan.prelude plan.mode.language row) (sym of.roots_are) of.read) in
     c.in_ok-it.ensures plan of.planned read of.roots_are

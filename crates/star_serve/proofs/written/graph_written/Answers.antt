@@ -10,7 +10,7 @@ returns-clause-text c = λ roots plan of.
     let run = c.args.run.now in
     let files = c.args.files.now in
     let same = c.in_ok-text.ensures.same in
-    let read = subst (λ rs. IsReadOf files rs plan.prelude plan.mode.dialect c.args.reads.now.all.items) (sym of.roots_are) of.read in
+    let read = subst (λ rs. IsReadOf files rs plan.prelude plan.mode.language c.args.reads.now.all.items) (sym of.roots_are) of.read in
     let graph = c.in_ok-text.ensures.text plan of.planned read of.modules in (
       subst (IsGraphText files plan) (sym c.with_answer.ensures.text) graph,
       answer_of plan run.kept c.with_answer.result.all_ok of.modules (λ e. subst (λ r. AllGood r.kept) same (c.with_answer.ensures.good e)) (λ e all. c.with_answer.ensures.bad e (subst (λ r. AllGood r.kept) (sym same) all)),

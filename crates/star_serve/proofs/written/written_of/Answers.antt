@@ -13,6 +13,16 @@ returns-in-Global-clause-said g c =
     let row = c.args.reads.now.all.items in
     if_ok-map c.globals_written.result (λ w h plan of. rw c.in-Global.is (h row plan (subst (λ roots. IsRunOf c.args.job.now.asked.now.files roots row c.args.run.now plan) (sym c.as_slice-roots.ensures.value) of))) c.globals_written.ensures.said
 
+pub returns-in-Calls-clause-text : goal.returns-in-Calls-clause-text
+returns-in-Calls-clause-text g c =
+    let row = c.args.reads.now.all.items in
+    if_ok-map c.calls_written.result (λ w h plan of. rw c.in-Calls.is (h row plan (subst (λ roots. IsRunOf c.args.job.now.asked.now.files roots row c.args.run.now plan) (sym c.as_slice-roots.ensures.value) of))) c.calls_written.ensures.text
+
+pub returns-in-Calls-clause-said : goal.returns-in-Calls-clause-said
+returns-in-Calls-clause-said g c =
+    let row = c.args.reads.now.all.items in
+    if_ok-map c.calls_written.result (λ w h plan of. rw c.in-Calls.is (h row plan (subst (λ roots. IsRunOf c.args.job.now.asked.now.files roots row c.args.run.now plan) (sym c.as_slice-roots.ensures.value) of))) c.calls_written.ensures.said
+
 pub returns-in-Graph-clause-text : goal.returns-in-Graph-clause-text
 returns-in-Graph-clause-text g c =
     if_ok-map c.graph_written.result (λ w h plan of. rw c.in-Graph.is (h c.args.job.now.asked.now.roots.items plan of)) c.graph_written.ensures.text

@@ -10,7 +10,7 @@ pub written_over-requires-clause-reads : goal.written_over-requires-clause-reads
 written_over-requires-clause-reads g c =
     let asked = c.args.asked.now in
     let row = c.args.staying.now.readings.reads.all.items in
-    λ lives within. subst (λ d. AreKnown asked.files asked.prelude d row) c.requires.dialect (subst (λ p. AreKnown asked.files p c.args.staying.now.readings.dialect row) c.requires.seen c.requires.readings.reads)
+    λ lives within. subst (λ d. AreKnown asked.files asked.prelude d row) c.requires.language (subst (λ p. AreKnown asked.files p c.args.staying.now.readings.language row) c.requires.seen c.requires.readings.reads)
 
 pub written_over-requires-clause-ends : goal.written_over-requires-clause-ends
 written_over-requires-clause-ends g c =
@@ -28,10 +28,10 @@ pub returns-clause-readings : goal.returns-clause-readings
 returns-clause-readings g c =
     let asked = c.args.asked.now in
     let before = c.written_over.new.reads.all.items in
-    let d = c.args.options.now.mode.dialect in
+    let d = c.args.options.now.mode.language in
     let row = c.take_others.new.self.all.items in
     let known = c.take_others.ensures asked.files asked.prelude d (known_again asked.files asked.roots.items asked.prelude d before c.in_ok-finished.ensures.read) c.in_ok-finished.ensures.others in
     record {
-      reads = subst (λ p. AreKnown asked.files p c.args.staying.now.readings.dialect row) (sym c.requires.seen) (subst (λ e. AreKnown asked.files asked.prelude e row) (sym c.requires.dialect) known);
+      reads = subst (λ p. AreKnown asked.files p c.args.staying.now.readings.language row) (sym c.requires.seen) (subst (λ e. AreKnown asked.files asked.prelude e row) (sym c.requires.language) known);
       parses = c.requires.readings.parses;
     }

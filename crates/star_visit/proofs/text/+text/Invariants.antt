@@ -65,20 +65,20 @@ decreases-put_new_dict l = 12 * l.levels + 6
 
 abbrev pub invariant-put_items-loop-i : goal.invariant-put_items-loop-i
 invariant-put_items-loop-i l =
-    let f = say_place (text (look l.arena l.homes) l.levels l.fn.page.path.items) l.items in
+    let f = say_place (text l.names (look l.arena l.homes) l.levels l.fn.page.path.items) l.items in
     record { rest : all_said f (l.count - l.i) l.i l.page.out l.page.steps ≡ all_said f l.count 0 l.fn.page.out l.fn.page.steps; less : l.page.steps ≤ l.fn.page.steps; path : l.page.path.items ≡ l.fn.page.path.items }
 
 abbrev pub invariant-put_entries-loop-i : goal.invariant-put_entries-loop-i
 invariant-put_entries-loop-i l =
-    let f = say_entry (text (look l.arena l.homes) l.levels l.fn.page.path.items) l.entries in
+    let f = say_entry (text l.names (look l.arena l.homes) l.levels l.fn.page.path.items) l.entries in
     record { rest : all_said f (l.count - l.i) l.i l.page.out l.page.steps ≡ all_said f l.count 0 l.fn.page.out l.fn.page.steps; less : l.page.steps ≤ l.fn.page.steps; path : l.page.path.items ≡ l.fn.page.path.items }
 
 abbrev pub invariant-put_fields-loop-i : goal.invariant-put_fields-loop-i
 invariant-put_fields-loop-i l =
-    let f = say_field (text (look l.arena l.homes) l.levels l.fn.page.path.items) l.fields in
+    let f = say_field (text l.names (look l.arena l.homes) l.levels l.fn.page.path.items) l.fields in
     record { rest : all_said f (l.count - l.i) l.i l.page.out l.page.steps ≡ all_said f l.count 0 l.fn.page.out l.fn.page.steps; less : l.page.steps ≤ l.fn.page.steps; path : l.page.path.items ≡ l.fn.page.path.items }
 
 abbrev pub invariant-put_elements-loop-i : goal.invariant-put_elements-loop-i
 invariant-put_elements-loop-i l =
-    let f = say_nth (text (look l.arena l.homes) l.levels l.fn.page.path.items) l.elements in
+    let f = say_nth (text l.names (look l.arena l.homes) l.levels l.fn.page.path.items) l.elements in
     record { rest : all_said f (l.count - l.i) l.i l.page.out l.page.steps ≡ all_said f l.count 0 l.fn.page.out l.fn.page.steps; less : l.page.steps ≤ l.fn.page.steps; path : l.page.path.items ≡ l.fn.page.path.items }

@@ -4,7 +4,7 @@ use Rattle.star_alone.proofs.reading.Reader.read_all.Given as goal
 
 abbrev pub invariant-loop-n : goal.invariant-loop-n
 invariant-loop-n l =
-    AreFound l.self.files.now (outside_seen l.self.prelude l.self.dialect) l.self.roots.now l.found.reads.items l.found.marks.items l.found.todo.items
+    AreFound l.self.files.now (outside_seen l.self.prelude l.self.language) l.self.roots.now l.found.reads.items l.found.marks.items l.found.todo.items
 
 -- each turn takes a file that was found, and each is found at most once
 abbrev pub decreases-loop-n : goal.decreases-loop-n

@@ -12,8 +12,8 @@ returns-clause-world c =
     let row = c.as_slice.result.now in
     let same : row ≡ c.args.reads.now.all.items = c.as_slice.ensures.value in
     let o = c.args.options in
-    let is : IsReadOf c.args.files.now o.roots.now o.prelude o.mode.dialect row = subst (IsReadOf c.args.files.now o.roots.now o.prelude o.mode.dialect) (sym same) c.requires.read in
-    let plan : Plan = record { roots = o.roots.now; prelude = o.prelude; mode = o.mode; reads = readings row } in
+    let is : IsReadOf c.args.files.now o.roots.now o.prelude o.mode.now.language row = subst (IsReadOf c.args.files.now o.roots.now o.prelude o.mode.now.language) (sym same) c.requires.read in
+    let plan : Plan = record { roots = o.roots.now; prelude = o.prelude; mode = o.mode.now; reads = readings row } in
     let planned = planned_so c.args.files.now is.0 row plan refl is.1 is.2 in
     record {
       files_are = refl;
@@ -33,7 +33,7 @@ returns-clause-world c =
 pub returns-clause-within : goal.returns-clause-within
 returns-clause-within c =
     let o = c.args.options in
-    let is : IsReadOf c.args.files.now o.roots.now o.prelude o.mode.dialect c.as_slice.result.now = subst (IsReadOf c.args.files.now o.roots.now o.prelude o.mode.dialect) (sym c.as_slice.ensures.value) c.requires.read in
+    let is : IsReadOf c.args.files.now o.roots.now o.prelude o.mode.now.language c.as_slice.result.now = subst (IsReadOf c.args.files.now o.roots.now o.prelude o.mode.now.language) (sym c.as_slice.ensures.value) c.requires.read in
     closed_within c.args.files.now _ c.as_slice.result.now refl is.2.sized is.2.closed
 
 pub returns-clause-asked : goal.returns-clause-asked

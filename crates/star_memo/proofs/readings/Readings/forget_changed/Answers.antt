@@ -22,7 +22,7 @@ loop-n-preserved c =
     elim c.if-not-has_text.branch [
       | then-not-has_text w ↦ subst Next (sym w.self-is) (record {
         prelude = so_far.prelude;
-        dialect = so_far.dialect;
+        language = so_far.language;
         reads = one_goes before files c.loop-n.n old.reads.all.items c.loop-n.self.reads.all.items w.forget.new.row.items (other w.if-not-has_text.true) w.forget.ensures.gone w.forget.ensures.others so_far.reads;
         parses = one_goes before files c.loop-n.n old.parses.items c.loop-n.self.parses.items w.forget-then-not-has_text.new.row.items (other w.if-not-has_text.true) w.forget-then-not-has_text.ensures.gone w.forget-then-not-has_text.ensures.others so_far.parses;
       })

@@ -5,17 +5,17 @@ use Rattle.star_reading.proofs.Finds.{all_found, waits_within}
 use Rattle.star_reading.proofs.reading.Reader.read_all.Goals as goal
 
 pub loop-n-init : goal.loop-n-init
-loop-n-init g c = record { found = c.in_ok-found.ensures (outside_seen c.args.self.now.prelude c.args.self.now.dialect); ahead = c.in_ok-ahead.ensures }
+loop-n-init g c = record { found = c.in_ok-found.ensures (outside_seen c.args.self.now.prelude c.args.self.now.language); ahead = c.in_ok-ahead.ensures }
 
 pub returns-clause-all : goal.returns-clause-all
 returns-clause-all g c =
     let r = c.args.self.now in
     let f = c.loop-n.found in
-    subst (λ rs. IsRowOf r.files.now (outside_seen r.prelude r.dialect) r.roots.now rs.items) (sym c.in_default.ensures.reads)
-    (all_found r.files.now (outside_seen r.prelude r.dialect) r.roots.now f.reads.items f.marks.items f.todo.items c.in_default.ensures.todo c.loop-n.invariant.found)
+    subst (λ rs. IsRowOf r.files.now (outside_seen r.prelude r.language) r.roots.now rs.items) (sym c.in_default.ensures.reads)
+    (all_found r.files.now (outside_seen r.prelude r.language) r.roots.now f.reads.items f.marks.items f.todo.items c.in_default.ensures.todo c.loop-n.invariant.found)
 
 pub read_next-requires-clause-file : goal.read_next-requires-clause-file
 read_next-requires-clause-file g c =
     let r = c.args.self.now in
     let f = c.loop-n.found in
-    waits_within r.files.now (outside_seen r.prelude r.dialect) r.roots.now f.reads.items f.marks.items f.todo.items c.next.new.self.todo.items c.in-Some.n c.loop-n.invariant.found c.in-Some.ensures.todo
+    waits_within r.files.now (outside_seen r.prelude r.language) r.roots.now f.reads.items f.marks.items f.todo.items c.next.new.self.todo.items c.in-Some.n c.loop-n.invariant.found c.in-Some.ensures.todo

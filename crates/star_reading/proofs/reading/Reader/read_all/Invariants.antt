@@ -5,8 +5,8 @@ use Rattle.star_reading.proofs.reading.Reader.read_all.Given as goal
 
 abbrev pub invariant-loop-n : goal.invariant-loop-n
 invariant-loop-n g l = record {
-  found : AreFound l.self.files.now (outside_seen l.self.prelude l.self.dialect) l.self.roots.now l.found.reads.items l.found.marks.items l.found.todo.items;
-  ahead : AreReadAs l.self.files.now (outside_seen l.self.prelude l.self.dialect) l.ahead.reads.items;
+  found : AreFound l.self.files.now (outside_seen l.self.prelude l.self.language) l.self.roots.now l.found.reads.items l.found.marks.items l.found.todo.items;
+  ahead : AreReadAs l.self.files.now (outside_seen l.self.prelude l.self.language) l.ahead.reads.items;
 }
 
 -- each turn takes a file that was found, and each is found at most once

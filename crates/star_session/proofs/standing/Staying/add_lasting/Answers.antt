@@ -13,7 +13,7 @@ lasting-requires g c =
       alike = subst (λ (v : ComparedView). AreAlike v.before v.files terms.prelude) back c.requires.alike;
       former = subst (λ (v : ComparedView). AreOutcomes v.before terms.prelude terms.mode c.as_slice-2.result.now) back (subst (AreOutcomes c.args.before.now terms.prelude terms.mode) (sym c.as_slice-2.ensures.value) c.requires.former);
       ends = subst (λ (v : ComparedView). AreOutcomes v.files terms.prelude terms.mode c.as_slice-3.result.now) back (subst (AreOutcomes c.args.files.now terms.prelude terms.mode) (sym c.as_slice-3.ensures.value) c.requires.outcomes);
-      reads = subst (λ (v : ComparedView). AreKnown v.files terms.prelude terms.mode.dialect c.as_slice-4.result.now) back (subst (AreKnown c.args.files.now terms.prelude terms.mode.dialect) (sym c.as_slice-4.ensures.value) c.requires.reads);
+      reads = subst (λ (v : ComparedView). AreKnown v.files terms.prelude terms.mode.language c.as_slice-4.result.now) back (subst (AreKnown c.args.files.now terms.prelude terms.mode.language) (sym c.as_slice-4.ensures.value) c.requires.reads);
     }
 
 pub returns-clause-ends : goal.returns-clause-ends

@@ -1,0 +1,3 @@
+mod Bytes
+mod Columns
+mod Heads
