@@ -18,7 +18,7 @@ use Rattle.star_session.specs.declared.request.Defaults.{Defaults}
 use Rattle.star_reply.proofs.Ordered.{before as parts, put_ordered}
 use Rattle.star_alike.specs.Laws.{BundlesReply, FilesInOrder}
 use Rattle.star_alike.proofs.Bundles.{bundles_are_files}
-use Rattle.star_alike.proofs.Sessions.{sessions_reply}
+use Rattle.star_alike.proofs.Sessions.{not_refused, sessions_reply}
 
 abbrev R : List ℕ → List ℕ → Ordering
 R = slice_cmp nat_cmp
@@ -75,7 +75,7 @@ no_limit files out (Some limit.Memory) e = absurd (let no : ⊥ = cc in no)
 
 pub bundles_reply : BundlesReply
 bundles_reply files a report h s labels texts =
-    let both = parts (within_limits files (limit_passed files)) (λ fs. asked_among a.roots a.prelude fs) h.asked h.asks in
+    let both = parts (within_limits files (limit_passed files)) (λ fs. asked_among a.roots a.prelude fs) h.asked (not_refused _ _ _ h.asked h.asks) in
     let is = bundles_are_files files s labels texts (no_limit files both.0 (limit_passed files) both.1) in
     let it = sessions_reply files a report h in
     (it.ok, it.is_reply _ [] is)

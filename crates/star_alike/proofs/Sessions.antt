@@ -17,7 +17,7 @@ use Rattle.star_reply.proofs.Replies.{all_read, one_answer, one_reply}
 use Rattle.star_alike.specs.Laws.{AreOptionsOf, ChangesFollow, IsAnsweredAsWritten, SessionsAnswer, SessionsAreProcesses, SessionsReply, SessionsServe, SessionsServeAmong, written}
 
 -- an input that is not refused for the names whose calls are to be recorded is the input
-not_refused : (test : Bool) (e : ServeError) (given : Result Asked ServeError) (asked : Asked) → if_so test e given ≡ Ok asked → given ≡ Ok asked
+pub not_refused : (test : Bool) (e : ServeError) (given : Result Asked ServeError) (asked : Asked) → if_so test e given ≡ Ok asked → given ≡ Ok asked
 not_refused true e (Ok x) asked h = h
 not_refused false e (Ok x) asked h = absurd (let no : ⊥ = cc in no)
 not_refused test e (Err f) asked h = absurd (let no : ⊥ = cc in no)

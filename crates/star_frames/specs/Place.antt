@@ -32,6 +32,10 @@ units_before units text n = sum_by (units_of units) (take n text)
 abbrev pub IsBoundary : List ℕ → ℕ → Type 0
 IsBoundary text n = (n ≡ length text) ⊎ (goes_on (slice_index text n) ≡ false)
 
+-- the lines are those of the text
+abbrev pub AreOf : Places → List ℕ → Type 0
+AreOf places text = places.starts.items ≡ starts_in text (length text)
+
 -- where a line begins
 abbrev pub start_of : Places → ℕ → ℕ
 start_of places zero = 0

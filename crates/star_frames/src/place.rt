@@ -1,7 +1,7 @@
 //! Positions in a text: a line, and a column in units of UTF-16 or UTF-8, both from 0.
 
 ghost use Rattle.std.specs.Prelude.{◌≡◌, ◌≤◌, ◌<◌, ◌+◌, ◌-◌, ◌⊎◌, ℕ, IfOk, MatchOption, false, length, slice_index};
-ghost use Rattle.star_frames.specs.Place.{IsBoundary, IsOnLine, Names, ends_at, goes_on, start_of, starts_in, units_before, units_of};
+ghost use Rattle.star_frames.specs.Place.{AreOf, IsBoundary, IsOnLine, Names, ends_at, goes_on, start_of, starts_in, units_before, units_of};
 
 use std::alloc::{AllocError, Global};
 
@@ -109,7 +109,7 @@ pub struct Places {
 impl Places {
     /// The lines of a text end with a line feed, a carriage return, or both.
     pub fn new(alloc: Global, text: &str, units: Units) -> Result<Places, AllocError>
-        ensures starts { IfOk result (λ places. places.starts.items ≡ starts_in text.now (length text.now)) }
+        ensures lines { IfOk result (λ places. AreOf places text.now) }
         ensures units { IfOk result (λ places. places.units ≡ units) }
     {
         let bytes = text.as_bytes();

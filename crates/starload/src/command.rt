@@ -1,6 +1,6 @@
 //! The command line: its arguments as `clap` reads them, and the options that they give.
 
-ghost use Rattle.std.specs.Prelude.{◌≡◌, ◌≤◌, true, false, None, Some, IfOk, IfSome, codes, map, option_map, string_bytes};
+ghost use Rattle.std.specs.Prelude.{[], ◌≡◌, ◌≤◌, true, false, None, Some, IfOk, IfSome, codes, map, option_map, string_bytes};
 ghost use Rattle.clap.specs.Matches.{first_value, found_of, one_text};
 ghost use Rattle.star_report.specs.declared.wanted.Output.TheVariants as Output;
 ghost use Rattle.starload.specs.Options as spec;
@@ -261,6 +261,30 @@ fn requests_arg<'a>(alloc: Global) -> Result<Arg<'a>, AllocError> {
         .conflicts_with("progress")
 }
 
+fn lsp_arg<'a>(alloc: Global) -> Result<Arg<'a>, AllocError> {
+    flag_arg(alloc, "lsp")
+        .help(
+            "Speaks the Language Server Protocol with an editor about the files of --repo (docs/EDITORS.md)",
+        )
+        .requires_arg("repo")?
+        .conflicts_with("ROOT")?
+        .conflicts_with("match")?
+        .conflicts_with("exclude")?
+        .conflicts_with("keep-going")?
+        .conflicts_with("with")?
+        .conflicts_with("only-roots")?
+        .conflicts_with("get")?
+        .conflicts_with("get-calls")?
+        .conflicts_with("graph")?
+        .conflicts_with("check")?
+        .conflicts_with("trace")?
+        .conflicts_with("explain")?
+        .conflicts_with("progress")?
+        .conflicts_with("requests")?
+        .conflicts_with("roots-from")?
+        .conflicts_with("report-status")
+}
+
 fn join_arg<'a>(alloc: Global) -> Result<Arg<'a>, AllocError> {
     flag_arg(alloc, "join")
         .help(
@@ -275,7 +299,8 @@ fn join_arg<'a>(alloc: Global) -> Result<Arg<'a>, AllocError> {
         .conflicts_with("graph")?
         .conflicts_with("check")?
         .conflicts_with("trace")?
-        .conflicts_with("requests")
+        .conflicts_with("requests")?
+        .conflicts_with("lsp")
 }
 
 // (`requires_arg` would be met by the default of a flag.)
@@ -311,6 +336,7 @@ fn roots_arg<'a>(alloc: Global) -> Result<Arg<'a>, AllocError> {
         .required_unless_present("roots-from")?
         .required_unless_present("explain-code")?
         .required_unless_present("requests")?
+        .required_unless_present("lsp")?
         .required_unless_present("join")
 }
 
@@ -348,11 +374,12 @@ fn with_output<'a>(alloc: Global, command: Command<'a>) -> Result<Command<'a>, A
         .arg(code_arg(alloc))
 }
 
-/// Adds the options of requests and of joins, and the roots.
+/// Adds the options of requests, of editors and of joins, and the roots.
 fn with_requests<'a>(alloc: Global, command: Command<'a>) -> Result<Command<'a>, AllocError> {
     command
         .arg(requests_arg(alloc)?)?
         .arg(keep_arg(alloc)?)?
+        .arg(lsp_arg(alloc)?)?
         .arg(join_arg(alloc)?)?
         .arg(roots_arg(alloc)?)
 }

@@ -17,6 +17,7 @@ mod codes;
 mod command;
 mod graph;
 mod join;
+mod lsp;
 mod progress;
 mod repo;
 mod requests;
@@ -27,6 +28,7 @@ mod topics;
 use clap::error::ErrorKind;
 use clap::{ArgMatches, Command};
 use command::{Errors, command, exit_status, is_listed, is_recorded, is_shown, options};
+use lsp::serve_lsp;
 use progress::Shown;
 use repo::{RepoAsked, report_repo};
 use requests::{FolderAsked, answer_requests};
@@ -346,6 +348,9 @@ fn main(rt: HostRuntime) -> ExitCode {
     let Some(mut options) = asked_options(&rt, alloc, &matches, errors) else {
         return ExitCode::from(2);
     };
+    if let (true, Some(asked)) = (matches.get_flag("lsp"), FolderAsked::of(&matches)) {
+        return serve_lsp(&rt, &rt, alloc, options, asked);
+    }
     if matches.get_flag("requests") {
         let keep = matches.get_one::<u32>("keep").unwrap_or(268_435_456);
         let asked = FolderAsked::of(&matches);

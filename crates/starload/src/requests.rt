@@ -60,7 +60,7 @@ impl<'a> FolderAsked<'a> {
 }
 
 /// The real path of a folder.
-fn real_path(rt: &HostRuntime, path: &str) -> io::Result<String> {
+pub(crate) fn real_path(rt: &HostRuntime, path: &str) -> io::Result<String> {
     if !fs::metadata(rt, path)?.is_dir() {
         return Err(io::Error::from(io::ErrorKind::NotADirectory));
     }
@@ -79,7 +79,7 @@ fn real_of(rt: &HostRuntime, asked: Option<FolderAsked<'_>>) -> io::Result<Strin
 }
 
 /// Says that a folder cannot be listed, and why.
-fn refuse_folder(rt: &HostRuntime, dir: &str, error: &io::Error) -> ExitCode {
+pub(crate) fn refuse_folder(rt: &HostRuntime, dir: &str, error: &io::Error) -> ExitCode {
     let _ = eprintln!(rt; "starload: cannot list the folder: {dir}: {error}");
     ExitCode::from(2)
 }

@@ -40,6 +40,7 @@ What is written
   --join              the join of the reports on standard input, one a line
   --requests          an answer to each line of standard input (starload help requests)
     --keep BYTES      about how much more memory a session may take than its largest request
+  --lsp               what an editor asks of the files of --repo, by the Language Server Protocol
 
 What a person is told, on standard error
   --explain[=WHEN]    what is at fault, where, and what to do: always, never, auto, all; github, sarif: for tools

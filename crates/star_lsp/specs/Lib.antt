@@ -1,0 +1,4 @@
+pub mod Diagnostic
+pub mod Message
+pub mod Overlay
+pub mod Place
